@@ -1,0 +1,34 @@
+-- The number of each refusal.
+use Prim.Native.Nat.{ℕ}
+use Rattle.pauli.specs.declared.fault.Fault.{Fault}
+use Rattle.pauli.specs.declared.fault.Fault.the-variants.{BadForm, TextEnded, BadSize, BadWidth, BadRows, BadStart, BadQubit, SameQubit, BadLabel, NoOutcome, JournalFull, TooFewCoins, NoEntry, ShortBuffer}
+
+abbrev pub number-of : Fault → ℕ
+-- a text or line is not of its form, or a text has more than 32,768 bytes
+number-of BadForm = 1
+-- the text has ended where its first or second line is looked for
+number-of TextEnded = 2
+-- the qubit count is 0 or above 64 (above 4 for a value table)
+number-of BadSize = 3
+-- the width exceeds the qubit count
+number-of BadWidth = 4
+-- the opening rows are not 2n+1 rows of the tableau pattern
+number-of BadRows = 5
+-- the register start is 0
+number-of BadStart = 6
+-- a gate's qubit is 0 or above the qubit count
+number-of BadQubit = 7
+-- a two-qubit gate names one qubit twice
+number-of SameQubit = 8
+-- a label has a letter beyond the qubit count, or its text has another length
+number-of BadLabel = 9
+-- the outcome number is 0 or not yet reached
+number-of NoOutcome = 10
+-- the journal has 512 entries
+number-of JournalFull = 11
+-- the source has fewer coins left than needed
+number-of TooFewCoins = 12
+-- the entry number is 0 or not yet reached
+number-of NoEntry = 13
+-- the buffer is shorter than the line
+number-of ShortBuffer = 14
