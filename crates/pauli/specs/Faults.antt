@@ -1,5 +1,10 @@
--- The number of each refusal.
+-- The number of each refusal, and what a call that can refuse answers.
+use mathlib.Core.Path.{_≡_}
 use Prim.Native.Nat.{ℕ}
+use Rattle.std.specs.declared.option.Option.{Option}
+use Rattle.std.specs.declared.option.Option.the-variants.{Some, None}
+use Rattle.std.specs.declared.result.Result.{Result}
+use Rattle.std.specs.declared.result.Result.the-variants.{Ok, Err}
 use Rattle.pauli.specs.declared.fault.Fault.{Fault}
 use Rattle.pauli.specs.declared.fault.Fault.the-variants.{BadForm, TextEnded, BadSize, BadWidth, BadRows, BadStart, BadQubit, SameQubit, BadLabel, NoOutcome, JournalFull, TooFewCoins, NoEntry, ShortBuffer}
 
@@ -32,3 +37,8 @@ number-of TooFewCoins = 12
 number-of NoEntry = 13
 -- the buffer is shorter than the line
 number-of ShortBuffer = 14
+
+-- a call refuses exactly where there is a reason to, and by that reason; else its answer is as `good` says
+abbrev pub Answers : {A : Type 0} → Option Fault → (A → Type 0) → Result A Fault → Type 0
+Answers why good (Ok a) = (why ≡ None) × good a
+Answers why good (Err e) = why ≡ Some e

@@ -1,11 +1,9 @@
 -- The gates: the table of letter images, CX, which calls are refused, and what a gate does to a row.
 use mathlib.Core.Bool.{Bool, true, false, cond, not, _&&_, Bool·beq}
 use Prim.Native.Nat.{ℕ, _-_}
-use lib.Dec.{eqb, leb}
+use lib.Dec.{eqb}
 use Rattle.std.specs.declared.option.Option.{Option}
 use Rattle.std.specs.declared.option.Option.the-variants.{Some, None}
-use Rattle.std.specs.declared.result.Result.{Result}
-use Rattle.std.specs.declared.result.Result.the-variants.{Ok, Err}
 use Rattle.pauli.specs.declared.fault.Fault.{Fault}
 use Rattle.pauli.specs.declared.fault.Fault.the-variants.{BadSize, BadQubit, SameQubit}
 use Rattle.pauli.specs.declared.label.Label.{Label}
@@ -18,7 +16,7 @@ use Rattle.pauli.specs.declared.gate.Gate.{Gate}
 use Rattle.pauli.specs.declared.gate.Gate.the-variants.{One, Cx}
 use Rattle.pauli.specs.declared.gate.Image.{Image}
 use Rattle.pauli.specs.Bits.{xorb, bitOf, withBit}
-use Rattle.pauli.specs.Labels.{at, put}
+use Rattle.pauli.specs.Labels.{at, put, size-ok, on-board}
 use Rattle.pauli.specs.Rows.{row}
 
 abbrev plain : Letter → Image
@@ -83,12 +81,6 @@ carry g r = row (moved g (r .label)) (xorb (r .sign) (flips g (r .label)))
 
 -- ---- refusals
 
-abbrev pub size-ok : ℕ → Bool
-size-ok n = leb 1 n && leb n 64
-
-abbrev pub on-board : ℕ → ℕ → Bool
-on-board n q = leb 1 q && leb q n
-
 -- every qubit of the gate is one of the n
 abbrev pub in-range : ℕ → Gate → Bool
 in-range n (One g q) = on-board n q
@@ -105,3 +97,7 @@ gate-fault n g = cond (in-range n g) (cond (named-twice g) (Some SameQubit) None
 -- the same where n comes from outside
 abbrev pub placing-fault : ℕ → Gate → Option Fault
 placing-fault n g = cond (size-ok n) (gate-fault n g) (Some BadSize)
+
+-- a gate that some number of qubits takes
+abbrev pub placeable : Gate → Bool
+placeable g = in-range 64 g && not (named-twice g)

@@ -1,15 +1,20 @@
 -- Labels: their product, how two of them commute, the sign rule, and their letters.
 use mathlib.Core.Path.{_≡_}
-use mathlib.Core.Bool.{Bool, _&&_}
+use mathlib.Core.Bool.{Bool, cond, _&&_}
 use mathlib.Core.List.{List, [], _∷_}
 use Prim.Native.Nat.{ℕ, zero, suc, _+_, _*_, _/_, _%_, _^_, _<_}
 use lib.Bits.{bitAnd, bitXor}
 use lib.Count.{ones}
-use lib.Dec.{ltb}
+use lib.Dec.{eqb, ltb, leb}
+use lib.ListN.{length}
+use Rattle.std.specs.declared.option.Option.{Option}
+use Rattle.std.specs.declared.option.Option.the-variants.{Some, None}
+use Rattle.pauli.specs.declared.fault.Fault.{Fault}
+use Rattle.pauli.specs.declared.fault.Fault.the-variants.{BadForm, BadSize, BadQubit, BadLabel, ShortBuffer}
 use Rattle.pauli.specs.declared.label.Label.{Label}
 use Rattle.pauli.specs.declared.letter.Letter.{Letter}
 use Rattle.pauli.specs.Bits.{odd, bitOf, withBit}
-use Rattle.pauli.specs.Letters.{letterOf, xOf, zOf, code-of}
+use Rattle.pauli.specs.Letters.{letterOf, xOf, zOf, code-of, all-letters}
 
 -- all letters I
 abbrev pub zeroLabel : Label
@@ -63,3 +68,28 @@ letters (suc n) x z = code-of (letterOf (odd x) (odd z)) ∷ letters n (x / 2) (
 
 abbrev pub label-text : ℕ → Label → List ℕ
 label-text n a = letters n (a .x) (a .z)
+
+-- the sign of the product of two labels, which only commuting ones have
+unfoldable pub product-sign : Label → Label → Option Bool
+product-sign a b = cond (odd (pairing a b)) None (Some (odd (beta a b)))
+
+-- ---- refusals
+
+-- how many qubits there can be
+abbrev pub size-ok : ℕ → Bool
+size-ok n = leb 1 n && leb n 64
+
+-- whether q is one of n qubits
+abbrev pub on-board : ℕ → ℕ → Bool
+on-board n q = leb 1 q && leb q n
+
+abbrev pub letter-fault : ℕ → Option Fault
+letter-fault q = cond (on-board 64 q) None (Some BadQubit)
+
+-- a text is read as a label of n qubits
+abbrev pub reading-fault : ℕ → List ℕ → Option Fault
+reading-fault n t = cond (all-letters t) (cond (size-ok n) (cond (eqb (length t) n) None (Some BadLabel)) (Some BadSize)) (Some BadForm)
+
+-- the n letters of a label are written where there is room for so many bytes
+abbrev pub writing-fault : ℕ → Label → ℕ → Option Fault
+writing-fault n a room = cond (size-ok n) (cond (fits n a) (cond (leb n room) None (Some ShortBuffer)) (Some BadLabel)) (Some BadSize)

@@ -1,5 +1,6 @@
 -- The four letters: their two bits, and how they are written.
-use mathlib.Core.Bool.{Bool, true, false, cond}
+use mathlib.Core.Bool.{Bool, true, false, cond, _&&_, _||_}
+use mathlib.Core.List.{List, [], _∷_}
 use Prim.Native.Nat.{ℕ}
 use lib.Dec.{eqb}
 use Rattle.std.specs.declared.result.Result.{Result}
@@ -42,3 +43,10 @@ bits-of c =
     (cond (eqb c 88) (Ok (true, false))
     (cond (eqb c 89) (Ok (true, true))
     (cond (eqb c 90) (Ok (false, true)) (Err BadForm))))
+
+abbrev pub is-letter : ℕ → Bool
+is-letter c = (eqb c 73 || eqb c 88) || (eqb c 89 || eqb c 90)
+
+abbrev pub all-letters : List ℕ → Bool
+all-letters [] = true
+all-letters (c ∷ cs) = is-letter c && all-letters cs

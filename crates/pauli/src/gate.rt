@@ -40,34 +40,94 @@ pub struct Images {
 // One row to a gate, in the order of `OneQubit`.
 const GATES: [Images; 5] = [
     Images {
-        i: Image { letter: Letter::I, sign: false },
-        x: Image { letter: Letter::Z, sign: false },
-        y: Image { letter: Letter::Y, sign: true },
-        z: Image { letter: Letter::X, sign: false },
+        i: Image {
+            letter: Letter::I,
+            sign: false,
+        },
+        x: Image {
+            letter: Letter::Z,
+            sign: false,
+        },
+        y: Image {
+            letter: Letter::Y,
+            sign: true,
+        },
+        z: Image {
+            letter: Letter::X,
+            sign: false,
+        },
     },
     Images {
-        i: Image { letter: Letter::I, sign: false },
-        x: Image { letter: Letter::Y, sign: false },
-        y: Image { letter: Letter::X, sign: true },
-        z: Image { letter: Letter::Z, sign: false },
+        i: Image {
+            letter: Letter::I,
+            sign: false,
+        },
+        x: Image {
+            letter: Letter::Y,
+            sign: false,
+        },
+        y: Image {
+            letter: Letter::X,
+            sign: true,
+        },
+        z: Image {
+            letter: Letter::Z,
+            sign: false,
+        },
     },
     Images {
-        i: Image { letter: Letter::I, sign: false },
-        x: Image { letter: Letter::X, sign: false },
-        y: Image { letter: Letter::Y, sign: true },
-        z: Image { letter: Letter::Z, sign: true },
+        i: Image {
+            letter: Letter::I,
+            sign: false,
+        },
+        x: Image {
+            letter: Letter::X,
+            sign: false,
+        },
+        y: Image {
+            letter: Letter::Y,
+            sign: true,
+        },
+        z: Image {
+            letter: Letter::Z,
+            sign: true,
+        },
     },
     Images {
-        i: Image { letter: Letter::I, sign: false },
-        x: Image { letter: Letter::X, sign: true },
-        y: Image { letter: Letter::Y, sign: false },
-        z: Image { letter: Letter::Z, sign: true },
+        i: Image {
+            letter: Letter::I,
+            sign: false,
+        },
+        x: Image {
+            letter: Letter::X,
+            sign: true,
+        },
+        y: Image {
+            letter: Letter::Y,
+            sign: false,
+        },
+        z: Image {
+            letter: Letter::Z,
+            sign: true,
+        },
     },
     Images {
-        i: Image { letter: Letter::I, sign: false },
-        x: Image { letter: Letter::X, sign: true },
-        y: Image { letter: Letter::Y, sign: true },
-        z: Image { letter: Letter::Z, sign: false },
+        i: Image {
+            letter: Letter::I,
+            sign: false,
+        },
+        x: Image {
+            letter: Letter::X,
+            sign: true,
+        },
+        y: Image {
+            letter: Letter::Y,
+            sign: true,
+        },
+        z: Image {
+            letter: Letter::Z,
+            sign: false,
+        },
     },
 ];
 

@@ -6,3 +6,5 @@ pub mod label;
 pub mod letter;
 pub mod placed;
 pub mod row;
+#[cfg(test)]
+mod tests;
