@@ -1,0 +1,17 @@
+pub mod Numbers
+pub mod Words
+pub mod Cases
+pub mod Signs
+pub mod Algebra
+pub mod Phases
+pub mod Products
+pub mod Places
+pub mod Pigeons
+pub mod Duals
+pub mod Spans
+pub mod PlacePhases
+pub mod Carriers
+pub mod OneQubit
+pub mod TwoQubits
+pub mod Gates
+pub mod Texts
