@@ -2,8 +2,6 @@
 ghost use mathlib.Core.Path.{_≡_};
 ghost use Rattle.pauli.specs.Gates.{image-of as imageOf};
 use crate::letter::Letter;
-use crate::letter::LetterDebug;
-use crate::letter::LetterPartialEq;
 
 #[derive(Clone, Copy, PartialEq, Eq, Debug)]
 pub enum OneQubit {
@@ -22,14 +20,14 @@ pub enum Gate {
 }
 
 // What a gate makes of one letter: a letter, and whether the sign flips.
-#[derive(Clone, Copy, PartialEq, Eq, Debug)]
+#[derive(Clone, Copy)]
 pub struct Image {
     pub letter: Letter,
     pub sign: bool,
 }
 
 // What a gate makes of each letter.
-#[derive(Clone, Copy, PartialEq, Eq, Debug)]
+#[derive(Clone, Copy)]
 pub struct Images {
     i: Image,
     x: Image,
