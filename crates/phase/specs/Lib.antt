@@ -1,0 +1,4 @@
+pub mod Sheets
+pub mod LabelCases
+pub mod Effects
+pub mod Answers

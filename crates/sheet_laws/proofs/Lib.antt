@@ -1,0 +1,10 @@
+pub mod Central
+pub mod Transport
+pub mod CaseFour
+pub mod Stated
+pub mod Counting
+pub mod Frames
+pub mod Homes
+pub mod Rays
+pub mod LabelCases
+pub mod Inclusion
