@@ -10,7 +10,6 @@ use lib.Dec.{eqb, leb}
 use lib.ListN.{length, getD, drop, length-drop, length-append}
 use Rattle.std.specs.Results.{ErrBy}
 use Rattle.std.specs.Vec.{made}
-use Rattle.std.proofs.shelf.Results.{err-from-errBy}
 use Rattle.std.proofs.shelf.Tests.{and-from}
 use Rattle.std.proofs.shelf.Lists.{drop-all}
 use Rattle.std.specs.declared.option.Option.{Option}
@@ -25,6 +24,7 @@ use Rattle.pauli.specs.declared.row.Row.{Row}
 use Rattle.pauli.specs.Gates.{carry, gate-fault, placing-fault}
 use Rattle.pauli.specs.Labels.{Within, label-text, size-ok, reading-fault}
 use Rattle.pauli.specs.Letters.{is-letter, all-letters}
+use Rattle.text.proofs.Places.{goes-up}
 use Rattle.text.specs.Lines.{Filled}
 use Rattle.text.specs.Reading.{Hit, Miss}
 use Rattle.text.specs.Texts.{sign-text, sign-byte, gate-text, Gated, Letters, same, Any}
@@ -32,10 +32,6 @@ use Rattle.carrying.specs.declared.report.Ending.{Ending}
 use Rattle.carrying.specs.declared.report.Ending.the-variants.{Done, Refused}
 use Rattle.carrying.specs.Carrying.{first-line, row-line, gate-line, No-row, No-gate, Gates, end, next, not-a-gate, refused, Carried, too-long, empty, not-a-row, too-many, row}
 use Rattle.carrying.specs.Lines.{gate-mark, Wide-row, Row-read, Gate-taken, Gate-refused, Steps}
-
--- the exit of a `?`: the fault goes up as it is
-pub goes-up : {A : Type 0} (P : Result A Fault → Type 0) (r : Result A Fault) (f : Fault) → ErrBy r (λ y. y ≡ f) → P (Err f) → P r
-goes-up P r f e p = let q = err-from-errBy r e in subst P (sym (q .1)) (subst (λ (y : Fault). P (Err y)) (sym (q .2)) p)
 
 -- ---- the first line
 

@@ -49,10 +49,10 @@ module _ {A B : Type 0} (v : B → List ℕ) (M : B → Type 0) (w : A → List 
 
 -- a field, a comma and a field
 module _ {A B : Type 0} (w : A → List ℕ) (L : A → Type 0) (v : B → List ℕ) (M : B → Type 0) where
-  abbrev both : A × B → List ℕ
+  abbrev pub both : A × B → List ℕ
   both p = w (p .0) ++ 44 ∷ v (p .1)
 
-  abbrev Both : A × B → Type 0
+  abbrev pub Both : A × B → Type 0
   Both p = L (p .0) × M (p .1)
 
   pub both-hit : {end : ℕ} {t : List ℕ} {at : ℕ} {a : A} {mid : ℕ} {b : B} {to : ℕ} → Hit w L 44 t at a mid → Hit v M end t mid b to → Hit both Both end t at (a, b) to

@@ -1,5 +1,5 @@
 -- One byte of a text at a place, and the exit of a `?` on a field.
-use mathlib.Core.Path.{_≡_, refl, sym, ap, _∙_}
+use mathlib.Core.Path.{_≡_, refl, sym, ap, subst, _∙_}
 use mathlib.Core.Logic.{⊎-elim}
 use mathlib.Core.List.{List, [], _∷_, _++_}
 use Prim.Native.Nat.{ℕ, _+_, _<_, _≤_}
@@ -10,6 +10,7 @@ use Rattle.std.proofs.shelf.Tests.{cases-lt}
 use Rattle.std.proofs.shelf.Results.{err-from-errBy}
 use Rattle.std.specs.Results.{ErrBy}
 use Rattle.std.specs.declared.result.Result.{Result}
+use Rattle.std.specs.declared.result.Result.the-variants.{Err}
 use Rattle.pauli.specs.declared.fault.Fault.{Fault}
 use Rattle.pauli.specs.declared.fault.Fault.the-variants.{BadForm}
 use Rattle.text.specs.declared.end.End.{End}
@@ -58,6 +59,10 @@ miss-past w L end t at h = record { never = λ b rest l e. go (w b) rest (sym (d
     go [] rest e = cons-not-nil end rest e
     go (x ∷ xs) rest e = cons-not-nil x (xs ++ end ∷ rest) e
 
--- the exit of a `?` on a field
+-- the exit of a `?`: the fault goes up as it is
+pub goes-up : {A : Type 0} (P : Result A Fault → Type 0) (r : Result A Fault) (f : Fault) → ErrBy r (λ y. y ≡ f) → P (Err f) → P r
+goes-up P r f e p = let q = err-from-errBy r e in subst P (sym (q .1)) (subst (λ (y : Fault). P (Err y)) (sym (q .2)) p)
+
+-- the same on a field
 pub passed : {A : Type 0} (w : A → List ℕ) (L : A → Type 0) (end : ℕ) (t : List ℕ) (at : ℕ) (r : Result (A × ℕ) Fault) (f : Fault) → ErrBy r (λ y. y ≡ f) → f ≡ BadForm → Miss w L end t at → Reads w L end t at r
 passed w L end t at r f e is never = let p = err-from-errBy r e in rw (p .1) (p .2 ∙ is, never)

@@ -1,5 +1,6 @@
 pub mod Ends
 pub mod Texts
+pub mod Runs
 pub mod Lines
 pub mod Reading
 pub mod Writing

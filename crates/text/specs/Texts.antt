@@ -1,6 +1,6 @@
 -- The text of a value that stands in a field, and which values a field takes.
 use mathlib.Core.Path.{_≡_}
-use mathlib.Core.Bool.{Bool, true, false, cond}
+use mathlib.Core.Bool.{Bool, true, false, cond, _||_}
 use mathlib.Core.List.{List, [], _∷_, _++_}
 use Prim.Native.Nat.{ℕ, zero, suc, _+_, _/_, _%_, _<_}
 use lib.Dec.{eqb, ltb}
@@ -94,6 +94,14 @@ same l = l
 pub record Letters (l : List ℕ) : Type 0 where
   pub some : 0 < length l
   pub each : (i : ℕ) → i < length l → Letter (getD l i 0)
+
+-- a coin is written as a digit 0 or 1
+abbrev pub is-coin : ℕ → Bool
+is-coin b = eqb b 48 || eqb b 49
+
+-- any number of coins, written as they are
+pub record Coins (l : List ℕ) : Type 0 where
+  pub each : (i : ℕ) → i < length l → is-coin (getD l i 0) ≡ true
 
 -- n coins as digits, the first coin from the lowest bit
 abbrev pub coins : ℕ → ℕ → List ℕ

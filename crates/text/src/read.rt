@@ -4,10 +4,10 @@ ghost use mathlib.Core.Path.{_≡_};
 ghost use Prim.Native.Nat.{ℕ, _<_, _≤_};
 ghost use lib.ListN.{length, getD};
 ghost use Rattle.std.specs.Written.{decimal};
-ghost use Rattle.pauli.specs.Letters.{is-letter as isLetter};
 ghost use Rattle.text.specs.Ends.{end-byte as endByte};
 ghost use Rattle.text.specs.Reading.{Reads, Shows};
-ghost use Rattle.text.specs.Texts.{Any, one as oneByte, num, Short, digits, sign-text as signText, gate-byte as gateByte, Named, turn-text as turnText, Turn, pair-text as pairText, Pair, gate-text as gateText, Gated, same, Letter, Letters};
+ghost use Rattle.text.specs.Texts.{Any, one as oneByte, num, Short, digits, sign-text as signText, gate-byte as gateByte, Named, turn-text as turnText, Turn, pair-text as pairText, Pair, gate-text as gateText, Gated, same, Letters, Coins};
+ghost use Rattle.text.specs.Runs.{is-of as isOf, Run};
 use crate::end::End;
 use pauli::fault::Fault;
 use pauli::gate::Gate;
@@ -131,21 +131,28 @@ pub fn gate(t: &[u8], at: usize, end: End) -> Result<(Gate, usize), Fault>
     Ok((Gate::Cx { control, target }, to))
 }
 
-fn is_letter(b: u8) -> bool
-    ensures { λ r. ⌜ r ≡ isLetter b ⌝ }
-{
-    b == b'I' || b == b'X' || b == b'Y' || b == b'Z'
+// Which bytes a run is made of.
+#[derive(Clone, Copy)]
+enum Kind {
+    Letter,
+    Coin,
 }
 
-// Where the letters that begin at a place end.
-fn letters_end(t: &[u8], at: usize) -> usize
-    ensures after { λ r. ⌜ at ≤ r ⌝ }
-    ensures within { λ r. ⌜ (at < r → r ≤ length (now (t .entry))) ⌝ }
-    ensures all { λ r. ⌜ ((k : ℕ) → at ≤ k → k < r → Letter (getD (now (t .entry)) k 0)) ⌝ }
-    ensures stops { λ r. ⌜ (r < length (now (t .entry)) → Letter (getD (now (t .entry)) r 0) → ⊥) ⌝ }
+fn is_of(kind: Kind, b: u8) -> bool
+    ensures { λ r. ⌜ r ≡ isOf kind b ⌝ }
+{
+    match kind {
+        Kind::Letter => b == b'I' || b == b'X' || b == b'Y' || b == b'Z',
+        Kind::Coin => b == b'0' || b == b'1',
+    }
+}
+
+// Where the run of such bytes that begins at a place ends.
+fn run_end(t: &[u8], at: usize, kind: Kind) -> usize
+    ensures { λ r. ⌜ Run kind (now (t .entry)) at r ⌝ }
 {
     let mut i = at;
-    while i < t.len() && is_letter(t[i]) {
+    while i < t.len() && is_of(kind, t[i]) {
         i += 1;
     }
     i
@@ -155,10 +162,21 @@ fn letters_end(t: &[u8], at: usize) -> usize
 pub fn letters<'a>(t: &'a [u8], at: usize, end: End) -> Result<(&'a [u8], usize), Fault>
     ensures { λ r. ⌜ Shows same Letters (endByte end) (t .entry) at r ⌝ }
 {
-    let to = letters_end(t, at);
+    let to = run_end(t, at, Kind::Letter);
     if to == at {
         return Err(Fault::BadForm);
     }
+    if peek(t, to) != end.byte() {
+        return Err(Fault::BadForm);
+    }
+    Ok((&t[at..to], to + 1))
+}
+
+// Any number of coins, digits 0 and 1, as the part of the text that they are.
+pub fn coins<'a>(t: &'a [u8], at: usize, end: End) -> Result<(&'a [u8], usize), Fault>
+    ensures { λ r. ⌜ Shows same Coins (endByte end) (t .entry) at r ⌝ }
+{
+    let to = run_end(t, at, Kind::Coin);
     if peek(t, to) != end.byte() {
         return Err(Fault::BadForm);
     }

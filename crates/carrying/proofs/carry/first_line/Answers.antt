@@ -1,8 +1,9 @@
 use mathlib.Core.Logic.{inl, inr}
 use mathlib.Core.Path.{_≡_, refl}
 use borrow.Author.Needs.{needs}
+use Rattle.text.proofs.Places.{goes-up}
 use Rattle.carrying.specs.Lines.{Opens}
-use Rattle.carrying.proofs.Steps.{goes-up, no-sign, no-letters, wide-row, row-read, is-label}
+use Rattle.carrying.proofs.Steps.{no-sign, no-letters, wide-row, row-read, is-label}
 use Rattle.carrying.proofs.carry.first_line.Needs as need
 
 pub returns-in-Break-sign : need.returns-in-Break-sign
