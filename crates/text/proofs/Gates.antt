@@ -1,8 +1,10 @@
 -- The fields of gates: by their first byte they are CX or a one-qubit gate.
 use mathlib.Core.Path.{_≡_, refl, sym, ap, _∙_}
+use mathlib.Core.Bool.{cond}
 use mathlib.Core.List.{List, [], _∷_, _++_}
 use Prim.Native.Nat.{ℕ, _+_, _<_}
 use native.Mathlib.Omega.{arith}
+use lib.Dec.{eqb}
 use lib.ListN.{length, getD, drop}
 use Rattle.pauli.specs.declared.gate.OneQubit.{OneQubit}
 use Rattle.pauli.specs.declared.gate.OneQubit.the-variants.{H, S, X, Y, Z}
@@ -12,8 +14,23 @@ use Rattle.text.specs.Reading.{Hit, Miss}
 use Rattle.text.specs.Texts.{Any, one, num, gate-byte, turn-text, Turn, pair-text, Pair, gate-text, Gated}
 use Rattle.text.proofs.Places.{peel, unpeel, present}
 
+-- a name names one gate
+unfoldable named : ℕ → OneQubit
+named b = cond (eqb b 72) H (cond (eqb b 83) S (cond (eqb b 88) X (cond (eqb b 89) Y Z)))
+
+named-back : (g : OneQubit) → named (gate-byte g) ≡ g
+unfolding named
+named-back H = refl
+named-back S = refl
+named-back X = refl
+named-back Y = refl
+named-back Z = refl
+
+pub gate-same : (g h : OneQubit) → gate-byte g ≡ gate-byte h → g ≡ h
+gate-same g h e = sym (named-back g) ∙ ap named e ∙ named-back h
+
 -- no one-qubit gate's name begins with C
-not-c : (g : OneQubit) → gate-byte g ≡ 67 → ⊥
+pub not-c : (g : OneQubit) → gate-byte g ≡ 67 → ⊥
 not-c H e = omega arith
 not-c S e = omega arith
 not-c X e = omega arith

@@ -6,3 +6,4 @@ pub mod Runs
 pub mod Writing
 pub mod Words
 pub mod Lines
+pub mod Apart

@@ -21,10 +21,13 @@ pub num-step : (n : ℕ) → 10 ≤ n → n < 2 ^ 64 → num n ≡ num (n / 10) 
 unfolding num
 num-step n g h = decimal-step n g h
 
--- a number of 32 bits has at most ten digits
-pub length-num : (n : ℕ) → n < 2 ^ 32 → length (num n) ≤ 10
+-- a number below 10 ^ k has at most k digits
+pub num-within : (k n : ℕ) → 0 < k → n < 10 ^ k → n < 2 ^ 64 → length (num n) ≤ k
 unfolding num
-length-num n h = length-decimal-le 10 n (omega arith) (omega arith) (omega arith)
+num-within k n = length-decimal-le k n
+
+pub length-num : (n : ℕ) → n < 2 ^ 32 → length (num n) ≤ 10
+length-num n h = num-within 10 n (omega arith) (omega arith) (omega arith)
 
 -- the three shapes of a number's text
 pub data Shape (n : ℕ) : Type 0 where

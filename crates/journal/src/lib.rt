@@ -1,0 +1,8 @@
+// The journal of a run: up to 512 entries in their order; and entries in plain words.
+mod journal;
+pub mod words;
+
+pub use journal::Journal;
+
+#[cfg(test)]
+mod tests;

@@ -1,0 +1,4 @@
+pub mod Lawful
+pub mod Lines
+pub mod Parts
+pub mod Entries

@@ -1,0 +1,3 @@
+// Sessions over any phase point and any coin source.
+pub mod playing;
+pub mod session;
