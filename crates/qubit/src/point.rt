@@ -18,6 +18,10 @@ pub struct Qubit {
     pub z: bool,
 }
 
+const SIZE: u32 = 1;
+
+const WIDTH: u32 = 1;
+
 const X: Label = Label { x: 1, z: 0 };
 
 const Y: Label = Label { x: 1, z: 1 };
@@ -96,15 +100,15 @@ pub impl ValueSheet for Qubit as QubitSheet {
     ghost sheet = { sheetOf };
 
     fn size(&self) -> u32 {
-        1
+        SIZE
     }
 
     fn width(&self) -> u32 {
-        1
+        WIDTH
     }
 
     fn value(&self, a: Label) -> Result<Option<bool>, Fault> {
-        if !a.fits(1) {
+        if !a.fits(SIZE) {
             return Err(Fault::BadLabel);
         }
         let letter = a.letter(1)?;
@@ -114,7 +118,7 @@ pub impl ValueSheet for Qubit as QubitSheet {
 
 pub impl PhasePoint for Qubit as QubitPoint {
     fn gate(&mut self, g: Gate) -> Result<(), Fault> {
-        g.placed(1)?;
+        g.placed(SIZE)?;
         match g {
             Gate::One { gate, qubit: _ } => *self = self.turned(gate),
             Gate::Cx {
@@ -126,14 +130,14 @@ pub impl PhasePoint for Qubit as QubitPoint {
     }
 
     fn look(&self, b: Label) -> Result<(Case, u32), Fault> {
-        if !b.fits(1) {
+        if !b.fits(SIZE) {
             return Err(Fault::BadLabel);
         }
         Ok(kind(b.letter(1)?))
     }
 
     fn measure(&mut self, b: Label, sign: bool, coins: u64) -> Result<bool, Fault> {
-        if !b.fits(1) {
+        if !b.fits(SIZE) {
             return Err(Fault::BadLabel);
         }
         let letter = b.letter(1)?;

@@ -1,0 +1,4 @@
+// Circuits, run line by line.
+pub mod play;
+pub mod run;
+pub mod stop;

@@ -1,0 +1,5 @@
+mod Counted
+mod Passes
+mod Parts
+mod Narrow
+mod Words
