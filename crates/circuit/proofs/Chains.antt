@@ -111,11 +111,13 @@ farther t at to x h =
 
 module _ (start : State) (text : List ℕ) (s : State) (k : ℕ) (t : List ℕ) (at : ℕ) (f : So-far start text s k (drop at t)) where
   pub one-more : (x : Said) (to : ℕ) (u : State) → Lawful (s .sheet) → Hit said-text SaidLaw 10 t at x to → LineDone s x u → So-far start text u (k + 1) (drop to t)
-  one-more x to u lawful h d = record { leads = λ v r p. f .leads v r (record {
-    moments = record { call = d .call; answer = d .answer; after = u } ∷ p .moments;
-    lines = subst (λ (z : List ℕ). Lines s k z (record { call = d .call; answer = d .answer; after = u } ∷ p .moments) v r) (sym (h .is))
-      (next s k x (drop to t) u (p .moments) v r lawful (h .law) d (p .lines));
-  }) }
+  one-more x to u lawful h d = record {
+    leads = λ v r p. f .leads v r (record {
+      moments = record { call = d .call; answer = d .answer; after = u } ∷ p .moments;
+      lines = subst (λ (z : List ℕ). Lines s k z (record { call = d .call; answer = d .answer; after = u } ∷ p .moments) v r) (sym (h .is))
+          (next s k x (drop to t) u (p .moments) v r lawful (h .law) d (p .lines));
+    });
+  }
 
   pub all-done : (u : State) → u ≡ s → length t ≤ at → Played start 3 text (Ok tt) u
   all-done u e h = subst (λ (v : State). Played start 3 text (Ok tt) v) (sym e) (f .leads s (Ok tt) (record { moments = []; lines = subst (λ (z : List ℕ). Lines s k z [] s (Ok tt)) (sym (drop-all at t h)) (end s k) }))
@@ -124,14 +126,14 @@ module _ (start : State) (text : List ℕ) (s : State) (k : ℕ) (t : List ℕ) 
   stopped e u to (same, inl (is, h, m)) =
       subst (λ (v : State). Played start 3 text (Err e) v) (sym same)
       (subst (λ (d : Stop). Played start 3 text (Err d) s) (sym is)
-        (f .leads s (Err (stop k BadForm)) (record { moments = []; lines = not-a-line s k (drop at t) some (λ x rest l e. m .never x rest l e) })))
+      (f .leads s (Err (stop k BadForm)) (record { moments = []; lines = not-a-line s k (drop at t) some (λ x rest l e. m .never x rest l e) })))
     where
       some : drop at t ≢ []
       some e = omega (arith, length-drop at t, ap length e, h)
   stopped e u to (same, inr (x, fault, is, h, d)) =
       subst (λ (v : State). Played start 3 text (Err e) v) (sym same)
       (subst (λ (d : Stop). Played start 3 text (Err d) s) (sym is)
-        (f .leads s (Err (stop k fault)) (record {
-          moments = [];
-          lines = subst (λ (z : List ℕ). Lines s k z [] s (Err (stop k fault))) (sym (h .is)) (refused s k x (drop to t) fault (h .law) d);
-        })))
+      (f .leads s (Err (stop k fault)) (record {
+        moments = [];
+        lines = subst (λ (z : List ℕ). Lines s k z [] s (Err (stop k fault))) (sym (h .is)) (refused s k x (drop to t) fault (h .law) d);
+      })))

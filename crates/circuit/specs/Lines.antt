@@ -68,8 +68,8 @@ abbrev pub OneLine : State → ℕ → List ℕ → ℕ → Result Bool Stop →
 OneLine s k t at (Ok true) u to = (x : Said) × Hit said-text SaidLaw 10 t at x to × LineDone s x u
 OneLine s k t at (Ok false) u to = (length t ≤ at) × (u ≡ s)
 OneLine s k t at (Err e) u to =
-  (u ≡ s) × (((e ≡ stop k BadForm) × (at < length t) × Miss said-text SaidLaw 10 t at)
-  ⊎ ((x : Said) × (f : Fault) × (e ≡ stop k f) × Hit said-text SaidLaw 10 t at x to × LineRefused s x f))
+    (u ≡ s) × (((e ≡ stop k BadForm) × (at < length t) × Miss said-text SaidLaw 10 t at)
+    ⊎ ((x : Said) × (f : Fault) × (e ≡ stop k f) × Hit said-text SaidLaw 10 t at x to × LineRefused s x f))
 
 -- a text of lines, from a state s on, where the next line is line k: the calls accepted with their answers, the state after them, and how it
 -- ended, at the text's end or at a line refused

@@ -1,4 +1,3 @@
 // Circuits, run line by line.
 pub mod play;
-pub mod run;
 pub mod stop;

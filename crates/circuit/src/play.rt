@@ -17,7 +17,10 @@ use phase::point::PhasePoint;
 use session::session::Session;
 
 // Makes the call that a line asks for.
-fn perform<P: PhasePoint, S: CoinSource>(session: &mut Session<P, S>, line: Line) -> Result<(), Fault>
+fn perform<P: PhasePoint, S: CoinSource>(
+    session: &mut Session<P, S>,
+    line: Line,
+) -> Result<(), Fault>
     ensures done { λ r. ⌜ Performed (seen (P·ValueSheet .sheet) coins (now (session .entry))) (said (line .entry)) r (seen (P·ValueSheet .sheet) coins (now (session .exit))) ⌝ }
     ensures kept { λ r. ⌜ (isErr r ≡ true → now (session .exit) ≡ now (session .entry)) ⌝ }
 {
@@ -28,7 +31,11 @@ fn perform<P: PhasePoint, S: CoinSource>(session: &mut Session<P, S>, line: Line
             session.measure(label, sign)?;
             Ok(())
         }
-        Line::Conditional { outcome, gate, qubit } => {
+        Line::Conditional {
+            outcome,
+            gate,
+            qubit,
+        } => {
             session.conditional(outcome, gate, qubit)?;
             Ok(())
         }
@@ -36,7 +43,11 @@ fn perform<P: PhasePoint, S: CoinSource>(session: &mut Session<P, S>, line: Line
 }
 
 // Performs the next line, the one of that number; false at the end of the text.
-fn step<P: PhasePoint, S: CoinSource>(session: &mut Session<P, S>, reader: &mut Reader, line: usize) -> Result<bool, Stop>
+fn step<P: PhasePoint, S: CoinSource>(
+    session: &mut Session<P, S>,
+    reader: &mut Reader,
+    line: usize,
+) -> Result<bool, Stop>
     ensures text { λ _. ⌜ now (reader .exit) .text ≡ now (reader .entry) .text ⌝ }
     ensures done { λ r. ⌜ OneLine (seen (P·ValueSheet .sheet) coins (now (session .entry))) line (now (now (reader .entry) .text)) (now (reader .entry) .at) r (seen (P·ValueSheet .sheet) coins (now (session .exit))) (now (reader .exit) .at) ⌝ }
 {
@@ -48,7 +59,10 @@ fn step<P: PhasePoint, S: CoinSource>(session: &mut Session<P, S>, reader: &mut 
 }
 
 // Plays the lines that are left, line 3 being the next, up to the text's end or the first line refused.
-pub fn play<P: PhasePoint, S: CoinSource>(session: &mut Session<P, S>, reader: &mut Reader) -> Result<(), Stop>
+pub fn play<P: PhasePoint, S: CoinSource>(
+    session: &mut Session<P, S>,
+    reader: &mut Reader,
+) -> Result<(), Stop>
     ensures { λ r. ⌜ Played (seen (P·ValueSheet .sheet) coins (now (session .entry))) 3 (drop (now (reader .entry) .at) (now (now (reader .entry) .text))) r (seen (P·ValueSheet .sheet) coins (now (session .exit))) ⌝ }
 {
     let mut line = 3;

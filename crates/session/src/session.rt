@@ -17,9 +17,9 @@ ghost use Rattle.runs.specs.Steps.{GateStep, ConditionalStep, MeasureStep, Step
 ghost use Rattle.session.specs.Seen.{seen};
 use coins::source::CoinSource;
 use coins::source::draw_word;
+use journal::Journal;
 use journal_lines::event::Event;
 use journal_lines::event::Measurement;
-use journal::Journal;
 use pauli::fault::Fault;
 use pauli::gate::Gate;
 use pauli::gate::OneQubit;

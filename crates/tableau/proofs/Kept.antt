@@ -154,7 +154,7 @@ look-answer s b (Err e) p h = label-refused (fits (s .size) b) e h
 
 pub measure-answer : (s s′ : RowStore) (b : Label) (sign : Bool) (word : ℕ) (r : Result Bool Fault) → pattern-in s ≡ true
     → Answers (label-fault (s .size) b)
-        (λ o. (o ≡ outcome-of b sign word (rows-of s)) × (s′ .size ≡ s .size) × Same-rows (measured-rows b sign word (rows-of s)) (rows-of s′)) r
+    (λ o. (o ≡ outcome-of b sign word (rows-of s)) × (s′ .size ≡ s .size) × Same-rows (measured-rows b sign word (rows-of s)) (rows-of s′)) r
     → MeasureAnswer (sheet-in s) b sign word r (sheet-in s′)
 measure-answer s s′ b sign word (Ok o) p h =
     let fit = label-taken (fits (s .size) b) (h .0) in

@@ -1,11 +1,11 @@
 -- The value that a tableau answers is the one that its rows give.
-use mathlib.Core.Path.{_≡_, refl, sym, ap, ap₂, _∙_, subst}
+use mathlib.Core.Path.{_≡_, refl, sym, ap, ap₂, _∙_}
 use mathlib.Core.Logic.{_≢_, _⊎_, inl, inr}
 use mathlib.Core.Bool.{Bool, true, false, cond, _&&_}
-use Prim.Native.Nat.{ℕ, zero, suc, _+_, _-_, _*_, _/_, _%_, _^_, _≤_, _<_}
+use Prim.Native.Nat.{ℕ, zero, suc, _+_, _-_, _/_, _%_, _<_}
 use native.Mathlib.Omega.{arith}
 use native.Mathlib.Decide.{ℕ-discrete}
-use lib.Dec.{T, eqb, ltb, eqb→eq, eqb-refl, ltb→lt, lt→ltb}
+use lib.Dec.{T, eqb}
 use Rattle.std.specs.declared.option.Option.{Option}
 use Rattle.std.specs.declared.option.Option.the-variants.{Some, None}
 use Rattle.pauli.specs.declared.label.Label.{Label}
@@ -28,43 +28,8 @@ use Rattle.sheet_laws.proofs.Central.{open-rays, open-rays-J, plus-back, some-i
 use Rattle.sheet_laws.proofs.Frames.{maximal}
 use Rattle.sheet_laws.proofs.Rays.{Chosen, anti, but-one, commuting, even, none-against, same-count, three-left}
 use Rattle.tableau_laws.proofs.Picked.{picked-comm, picked-law, picked-zero}
+use Rattle.tableau_laws.proofs.Tests.{eq-false, eq-of, eq-true, ne-of, seek}
 use Rattle.tableau_laws.proofs.Tableaux.{E-central, J-read, JP, central-label, commutes, label-of, tableau-J, tableau-central, tableau-closed, tableau-lawful}
-
--- a search among the first N places
-seek : (N : ℕ) (P : ℕ → Type 0) → ((i : ℕ) → Dec (P i)) → Dec ((i : ℕ) × (i < N) × P i)
-seek zero P d = no (λ p. omega (arith, p .1))
-seek (suc N) P d = go (seek N P d) (d N)
-  where
-    go : Dec ((i : ℕ) × (i < N) × P i) → Dec (P N) → Dec ((i : ℕ) × (i < suc N) × P i)
-    go (yes p) e = yes (p .0, omega (arith, p .1), p .2)
-    go (no h) (yes p) = yes (N, omega arith, p)
-    go (no h) (no k) = no (λ p. by p (ℕ-discrete (p .0) N))
-      where
-        by : (p : (i : ℕ) × (i < suc N) × P i) → Dec (p .0 ≡ N) → ⊥
-        by p (yes e) = k (subst P e (p .2))
-        by p (no ne) = h (p .0, omega (arith, p .1, ne), p .2)
-
--- ---- tests
-
-pub eq-of : (x y : ℕ) → eqb x y ≡ true → x ≡ y
-eq-of x y e = eqb→eq x y (subst T (sym e) tt)
-
-test-true : (p : Bool) → T p → p ≡ true
-test-true true t = refl
-test-true false t = absurd t
-
-test-false : (p : Bool) → (T p → ⊥) → p ≡ false
-test-false true t = absurd (t tt)
-test-false false t = refl
-
-pub eq-true : (x y : ℕ) → x ≡ y → eqb x y ≡ true
-eq-true x y e = test-true (eqb x y) (subst (λ (z : ℕ). T (eqb x z)) e (eqb-refl x))
-
-pub ne-of : (x y : ℕ) → eqb x y ≡ false → x ≢ y
-ne-of x y e p = subst T (sym (eq-true x y p) ∙ e) tt
-
-pub eq-false : (x y : ℕ) → x ≢ y → eqb x y ≡ false
-eq-false x y ne = test-false (eqb x y) (λ t. ne (eqb→eq x y t))
 
 -- ---- counts
 
@@ -93,9 +58,6 @@ one-count R b k e = go (commuting R b k)
             absurd (ne (sym (c .2) ∙ ap q c0))
 
 module _ (n m w : ℕ) (D : ℕ → Label) (E J : ℕ → Row) (T : Tableau n m w D E J) where
-  abbrev P : Label → Row
-  P a = picked D E a m
-
   abbrev Ray : Label → Type 0
   Ray a = (q : ℕ) × (q < w + w + 1) × (plus (picked D E a m .label) (J q .label) ≡ a)
 

@@ -2,18 +2,17 @@
 use mathlib.Core.Path.{_≡_, refl, sym, ap, ap₂, _∙_, subst}
 use mathlib.Core.Logic.{_≢_, _⊎_, inl, inr}
 use mathlib.Core.Bool.{Bool, true, false, cond, not}
-use Prim.Native.Nat.{ℕ, zero, suc, _+_, _-_, _*_, _%_, _≤_, _<_}
+use Prim.Native.Nat.{ℕ, zero, suc, _+_, _-_, _≤_, _<_}
 use native.Mathlib.Omega.{arith}
-use native.Mathlib.Decide.{ℕ-discrete, decLt}
+use native.Mathlib.Decide.{ℕ-discrete}
 use lib.Pow.{pow-pos}
 use Rattle.std.specs.declared.option.Option.the-variants.{Some}
 use Rattle.pauli.specs.declared.label.Label.{Label}
 use Rattle.pauli.specs.declared.row.Row.{Row}
-use Rattle.pauli.specs.Bits.{odd, xorb}
-use Rattle.pauli.specs.Labels.{Within, beta, pairing, plus, zeroLabel}
+use Rattle.pauli.specs.Bits.{odd}
+use Rattle.pauli.specs.Labels.{Within, pairing, plus, zeroLabel}
 use Rattle.pauli.specs.Rows.{row, times}
 use Rattle.phase.specs.Effects.{Narrowed}
-use Rattle.phase.specs.LabelCases.{against}
 use Rattle.phase.specs.Sheets.{Lawful, Values}
 use Rattle.pauli_laws.specs.Products.{chosen}
 use Rattle.tableau_laws.specs.Places.{count, glue, nth, total}
@@ -23,7 +22,7 @@ use Rattle.pauli_laws.proofs.Algebra.{pairing-comm, pairing-l, pairing-lt, pair
 use Rattle.pauli_laws.proofs.Numbers.{bit-cases}
 use Rattle.pauli_laws.proofs.Products.{Comm, comm-swap, comm-times, self-comm, times-assoc, times-self, times-zero}
 use Rattle.tableau_laws.proofs.Answered.{central-product, lawful, zero-count}
-use Rattle.tableau_laws.proofs.Pairs.{Anti, Place, back, count-in, dest-dest, dest-other, front, place, stab-dest, stab-dest-same, stab-other, stab-stab, total-within, total-zero}
+use Rattle.tableau_laws.proofs.Pairs.{Anti, back, count-in, dest-dest, dest-other, front, place, stab-dest, stab-dest-same, stab-other, stab-stab, total-within, total-zero}
 use Rattle.tableau_laws.proofs.Picked.{picked-comm, picked-zero}
 use Rattle.tableau_laws.proofs.Places.{count-against, count-less, count-not, nth-at, nth-is}
 use Rattle.tableau_laws.proofs.Sole.{E-has, Has, J-has, kept-values, picked-has, times-has}

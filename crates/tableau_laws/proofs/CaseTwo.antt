@@ -1,16 +1,14 @@
 -- Case 2 on rows: the signs that flip add [b,a] to the value of every valued a.
-use mathlib.Core.Path.{_≡_, refl, sym, ap, ap₂, _∙_, subst}
+use mathlib.Core.Path.{_≡_, refl, ap, _∙_}
 use mathlib.Core.Bool.{Bool, true, false, _&&_}
-use Prim.Native.Nat.{ℕ, zero, suc, _+_, _<_}
-use native.Mathlib.Omega.{arith}
+use Prim.Native.Nat.{ℕ}
 use Rattle.std.specs.declared.option.Option.the-variants.{Some}
 use Rattle.pauli.specs.declared.label.Label.{Label}
 use Rattle.pauli.specs.declared.row.Row.{Row}
 use Rattle.pauli.specs.Bits.{odd, xorb}
-use Rattle.pauli.specs.Labels.{pairing, plus, zeroLabel}
-use Rattle.pauli.specs.Rows.{row, zeroRow}
+use Rattle.pauli.specs.Labels.{pairing, zeroLabel}
+use Rattle.pauli.specs.Rows.{row}
 use Rattle.phase.specs.Effects.{signed, Turned}
-use Rattle.tableau_laws.specs.Places.{total}
 use Rattle.tableau_laws.specs.Rules.{flipped}
 use Rattle.tableau_laws.specs.Tableaux.{Tableau, answer, labels, stab-count, tableau-sheet}
 use Rattle.pauli_laws.proofs.Algebra.{pairing-comm, pairing-zero}

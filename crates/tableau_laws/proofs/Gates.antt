@@ -1,21 +1,20 @@
 -- A gate on rows: the carried rows are a tableau, and its sheet is the carried one.
-use mathlib.Core.Path.{_≡_, refl, sym, ap, ap₂, _∙_, subst}
+use mathlib.Core.Path.{_≡_, refl, sym, ap, ap₂, _∙_}
 use mathlib.Core.Bool.{Bool, true, false, cond}
 use Prim.Native.Nat.{ℕ, zero, suc, _+_, _<_}
 use native.Mathlib.Omega.{arith}
 use lib.Pow.{pow-pos}
-use Rattle.std.specs.declared.option.Option.the-variants.{Some, None}
+use Rattle.std.specs.declared.option.Option.the-variants.{None}
 use Rattle.pauli.specs.declared.gate.Gate.{Gate}
 use Rattle.pauli.specs.declared.label.Label.{Label}
 use Rattle.pauli.specs.declared.row.Row.{Row}
 use Rattle.pauli.specs.Bits.{xorb}
 use Rattle.pauli.specs.Gates.{carry, flips, gate-fault, moved}
-use Rattle.pauli.specs.Labels.{Within, fits, pairing, plus, zeroLabel}
+use Rattle.pauli.specs.Labels.{Within, fits, plus}
 use Rattle.pauli.specs.Rows.{row}
 use Rattle.phase.specs.Effects.{Gated, signed}
 use Rattle.phase.specs.Sheets.{Valued, Values}
 use Rattle.pauli_laws.specs.Carriers.{Carries}
-use Rattle.sheet_laws.specs.Laws.{Carried}
 use Rattle.tableau_laws.specs.Places.{total}
 use Rattle.tableau_laws.specs.Tableaux.{Tableau, answer, labels, tableau-sheet}
 use Rattle.phase.proofs.Unique.{not-both}

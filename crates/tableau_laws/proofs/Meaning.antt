@@ -1,9 +1,8 @@
 -- What the rows mean: the centre is the products of stabilizers, and each Jordan-Wigner row times it is a ray.
-use mathlib.Core.Path.{_≡_, refl, sym, ap, ap₂, _∙_, subst}
+use mathlib.Core.Path.{_≡_, refl, sym, ap, _∙_, subst}
 use mathlib.Core.Logic.{_≢_, _⊎_, inl, inr}
 use mathlib.Core.Bool.{Bool, true, false}
 use Prim.Native.Nat.{ℕ, zero, suc, _+_, _<_}
-use native.Mathlib.Decide.{ℕ-discrete}
 use native.Mathlib.Omega.{arith}
 use Rattle.std.specs.declared.option.Option.the-variants.{Some}
 use Rattle.pauli.specs.declared.label.Label.{Label}
@@ -17,7 +16,7 @@ use Rattle.tableau_laws.specs.Laws.{Some-product}
 use Rattle.tableau_laws.specs.Places.{total}
 use Rattle.tableau_laws.specs.Tableaux.{Tableau, answer, picked}
 use Rattle.pauli_laws.proofs.Algebra.{pairing-l, pairing-zero, plus-comm, plus-right}
-use Rattle.sheet_laws.proofs.Central.{central-plus, central-sum, shifted}
+use Rattle.sheet_laws.proofs.Central.{central-plus, shifted}
 use Rattle.tableau_laws.proofs.Answered.{lawful, reads}
 use Rattle.tableau_laws.proofs.Sole.{J-has}
 use Rattle.tableau_laws.proofs.Tableaux.{E-central, central-label, tableau-J, tableau-closed}

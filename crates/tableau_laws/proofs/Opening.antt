@@ -1,11 +1,11 @@
 -- The opening rows are a tableau: how words pair and sum, letter by letter.
 use mathlib.Core.Path.{_≡_, refl, sym, ap, ap₂, _∙_, subst}
-use mathlib.Core.Logic.{_≢_, _⊎_, inl, inr}
+use mathlib.Core.Logic.{_≢_}
 use mathlib.Core.Bool.{Bool, true, false, cond}
 use mathlib.Core.List.{List, [], _∷_}
-use Prim.Native.Nat.{ℕ, zero, suc, _+_, _-_, _*_, _/_, _%_, _^_, _≤_, _<_, min}
+use Prim.Native.Nat.{ℕ, zero, suc, _+_, _-_, _*_, _/_, _%_, _≤_, _<_, min}
 use native.Mathlib.Decide.{ℕ-discrete, decLt}
-use native.Mathlib.Nat.{lt-of-lt-of-le, pow-suc}
+use native.Mathlib.Nat.{lt-of-lt-of-le}
 use native.Mathlib.Omega.{arith}
 use lib.Bits.{bitAnd, bitXor, and-shr, xor-shr}
 use lib.Count.{ones, ones-step}
@@ -14,20 +14,19 @@ use lib.Pow.{pow-mono}
 use Rattle.pauli.specs.declared.label.Label.{Label}
 use Rattle.pauli.specs.declared.letter.Letter.{Letter}
 use Rattle.pauli.specs.declared.letter.Letter.the-variants.{I, X, Y, Z}
-use Rattle.pauli.specs.declared.row.Row.{Row}
 use Rattle.pauli.specs.Bits.{odd, xorb}
 use Rattle.pauli.specs.Labels.{Within, pairing, plus, zeroLabel}
-use Rattle.pauli.specs.Letters.{letterOf, xOf, zOf}
-use Rattle.pauli.specs.Rows.{row, zeroRow}
+use Rattle.pauli.specs.Letters.{xOf, zOf}
+use Rattle.pauli.specs.Rows.{row}
 use Rattle.pauli_laws.specs.Words.{num, positive, word}
-use Rattle.tableau_laws.specs.Opening.{open-D, open-E, open-J, open-end, open-word, opening, run}
+use Rattle.tableau_laws.specs.Opening.{open-J, open-end, open-word, opening, run}
 use Rattle.tableau_laws.specs.Places.{total}
 use Rattle.tableau_laws.specs.Rules.{Lawful-rows}
-use Rattle.tableau_laws.specs.Tableaux.{Tableau, labels}
-use Rattle.pauli_laws.proofs.Algebra.{pairing-comm, pairing-lt, pairing-self, pairing-zero, plus-self, plus-zero}
+use Rattle.tableau_laws.specs.Tableaux.{labels}
+use Rattle.pauli_laws.proofs.Algebra.{pairing-comm, pairing-lt, pairing-self, pairing-zero, plus-self}
 use Rattle.pauli_laws.proofs.Texts.{word-within}
 use Rattle.pauli_laws.proofs.Words.{and-low, by-halves, xor-low}
-use Rattle.tableau_laws.proofs.Answered.{eq-false, eq-true}
+use Rattle.tableau_laws.proofs.Tests.{eq-false, eq-true}
 
 -- ---- a letter before a label
 
@@ -57,10 +56,7 @@ pair-before : (l k : Letter) (a b : Label) → pairing (before l a) (before k b)
 unfolding pairing
 pair-before l k a b = omega (arith, ones-and (xOf l) (zOf k) (a .x) (b .z), ones-and (zOf l) (xOf k) (a .z) (b .x))
 
--- the letter of a product
-abbrev mul : Letter → Letter → Letter
-mul l k = letterOf (xorb (xOf l) (xOf k)) (xorb (zOf l) (zOf k))
-
+-- the sum of two words, bit by bit
 xor-before : (p q : Bool) (a b : ℕ) → bitXor (num p + 2 * a) (num q + 2 * b) ≡ num (xorb p q) + 2 * bitXor a b
 xor-before p q a b =
     by-halves (bitXor (num p + 2 * a) (num q + 2 * b)) (num (xorb p q) + 2 * bitXor a b)

@@ -1,7 +1,7 @@
 -- The places that Cases 3 and 4 speak of: the first, and the i-th in row order.
-use mathlib.Core.Path.{_≡_, sym, ap, _∙_, subst}
-use mathlib.Core.Bool.{Bool, true, false, not}
-use Prim.Native.Nat.{ℕ, _+_, _-_, _<_}
+use mathlib.Core.Path.{_≡_, ap}
+use mathlib.Core.Bool.{Bool, true, not}
+use Prim.Native.Nat.{ℕ, _+_, _-_}
 use native.Mathlib.Omega.{arith}
 use Rattle.pauli.specs.declared.label.Label.{Label}
 use Rattle.pauli.specs.declared.row.Row.{Row}
@@ -9,7 +9,7 @@ use Rattle.pauli.specs.Bits.{odd}
 use Rattle.pauli.specs.Labels.{pairing}
 use Rattle.tableau_laws.specs.Laws.{First-law, In-order, Order-law}
 use Rattle.tableau_laws.specs.Places.{count, nth}
-use Rattle.tableau_laws.specs.Rules.{against-b, p-of, q-of}
+use Rattle.tableau_laws.specs.Rules.{against-b}
 use Rattle.tableau_laws.specs.Tableaux.{jw-count}
 use Rattle.pauli_laws.proofs.Algebra.{pairing-lt}
 use Rattle.tableau_laws.proofs.CaseThree.{even-is, odd-is}

@@ -1,8 +1,8 @@
 -- Labels that anticommute with each other, made into pairs: what Case 3 appends.
-use mathlib.Core.Path.{_≡_, refl, sym, ap, ap₂, _∙_, subst}
-use mathlib.Core.Logic.{_≢_, _⊎_, inl, inr}
+use mathlib.Core.Path.{_≡_, refl, ap, _∙_}
+use mathlib.Core.Logic.{_≢_}
 use mathlib.Core.Bool.{Bool, true, false, cond, not}
-use Prim.Native.Nat.{ℕ, zero, suc, _+_, _-_, _*_, _%_, _≤_, _<_}
+use Prim.Native.Nat.{ℕ, zero, suc, _+_, _-_, _%_, _≤_, _<_}
 use native.Mathlib.Omega.{arith}
 use native.Mathlib.Decide.{ℕ-discrete, decLt}
 use lib.Dec.{T, ltb, ltb→lt, nltb→le}
@@ -11,7 +11,7 @@ use Rattle.pauli.specs.declared.label.Label.{Label}
 use Rattle.pauli.specs.Labels.{plus, pairing, zeroLabel, Within}
 use Rattle.tableau_laws.specs.Places.{total, glue}
 use Rattle.tableau_laws.specs.Rules.{stab, dest}
-use Rattle.pauli_laws.proofs.Algebra.{plus-comm, plus-assoc, plus-self, pairing-l, pairing-comm, pairing-lt, pairing-self, plus-zero, plus-cancel, pairing-zero, pairing-r, plus-within}
+use Rattle.pauli_laws.proofs.Algebra.{pairing-l, pairing-comm, pairing-lt, pairing-self, pairing-zero, pairing-r, plus-within}
 
 -- ---- sums against a label
 

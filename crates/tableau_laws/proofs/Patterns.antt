@@ -1,26 +1,25 @@
 -- The test of the pattern is right both ways.
 use mathlib.Core.Path.{_≡_, refl, sym, ap, ap₂, _∙_, subst}
-use mathlib.Core.Logic.{_≢_, _⊎_, inl, inr}
+use mathlib.Core.Logic.{_≢_}
 use mathlib.Core.Bool.{Bool, true, false, cond, not, _&&_, _||_, Bool·beq}
-use Prim.Native.Nat.{ℕ, zero, suc, _+_, _-_, _≤_, _<_}
+use Prim.Native.Nat.{ℕ, _+_, _-_, _≤_, _<_}
 use native.Mathlib.Decide.{ℕ-discrete, decLt}
 use native.Mathlib.Omega.{arith}
 use lib.Dec.{eqb, leb, ltb}
 use Rattle.pauli.specs.declared.label.Label.{Label}
 use Rattle.pauli.specs.declared.row.Row.{Row}
 use Rattle.pauli.specs.Bits.{odd}
-use Rattle.pauli.specs.Labels.{Within, fits, pairing, plus, size-ok, zeroLabel}
+use Rattle.pauli.specs.Labels.{Within, fits, pairing, size-ok, zeroLabel}
 use Rattle.pauli.specs.Rows.{row, zeroRow}
 use Rattle.pauli_laws.specs.Words.{num}
-use Rattle.tableau_laws.specs.Patterns.{given, is-zero, meets, pattern-ok, place-ok, rows-ok, signs-ok, sum-ok}
+use Rattle.tableau_laws.specs.Patterns.{given, meets, pattern-ok, place-ok, rows-ok, signs-ok, sum-ok}
 use Rattle.tableau_laws.specs.Places.{all-below, total}
 use Rattle.tableau_laws.specs.Rules.{Lawful-rows, Rows, row-at}
-use Rattle.tableau_laws.specs.Tableaux.{Tableau, labels}
+use Rattle.tableau_laws.specs.Tableaux.{Tableau}
 use Rattle.pauli_laws.proofs.Algebra.{pairing-comm, pairing-lt, pairing-self, plus-zero}
 use Rattle.pauli_laws.proofs.Texts.{fits-within, within-fits}
-use Rattle.tableau_laws.proofs.Answered.{eq-false, eq-of, eq-true}
 use Rattle.tableau_laws.proofs.Same.{pattern-same}
-use Rattle.tableau_laws.proofs.Tests.{all-get, all-make, beq-of, beq-same, bit-of, le-false, le-of, le-true, left, lt-false, lt-true, no-of, right, together}
+use Rattle.tableau_laws.proofs.Tests.{all-get, all-make, beq-of, beq-same, bit-of, eq-false, eq-of, eq-true, le-false, le-of, le-true, left, lt-false, lt-true, no-of, right, together}
 
 -- ---- which places are to anticommute
 

@@ -1,16 +1,13 @@
 -- The products of stabilizers that labels pick, and lists by place.
 use mathlib.Core.Path.{_≡_, refl, sym, ap, ap₂, _∙_, subst}
-use mathlib.Core.Logic.{_≢_, _⊎_, inl, inr}
-use mathlib.Core.Bool.{Bool, true, false, cond}
+use mathlib.Core.Logic.{_≢_, inl, inr}
+use mathlib.Core.Bool.{Bool, true, false}
 use mathlib.Core.List.{List, [], _∷_}
-use Prim.Native.Nat.{ℕ, zero, suc, _+_, _-_, _*_, _/_, _%_, _^_, _≤_, _<_}
+use Prim.Native.Nat.{ℕ, zero, suc, _<_}
 use native.Mathlib.Omega.{arith}
 use native.Mathlib.Decide.{ℕ-discrete}
 use lib.Dec.{eqb}
 use lib.ListN.{length}
-use lib.Pow.{pow-pos}
-use Rattle.std.specs.declared.option.Option.{Option}
-use Rattle.std.specs.declared.option.Option.the-variants.{Some, None}
 use Rattle.pauli.specs.declared.label.Label.{Label}
 use Rattle.pauli.specs.declared.row.Row.{Row}
 use Rattle.pauli.specs.Bits.{odd, xorb}
@@ -50,9 +47,6 @@ duals-tab R V (suc n) h k = (
 -- ---- products of stabilizers
 
 module _ (D : ℕ → Label) (E : ℕ → Row) where
-  sel : Label → ℕ → Row
-  sel a m = chosen (odd (pairing (D m) a)) (E m)
-
   -- what commutes with the stabilizers commutes with their products
   pub picked-comm : (r : Row) (a : Label) (m : ℕ) → ((i : ℕ) → i < m → Comm r (E i)) → Comm r (picked D E a m)
   picked-comm r a zero h = pairing-comm (r .label) zeroLabel ∙ pairing-zero (r .label)

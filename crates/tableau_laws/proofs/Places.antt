@@ -1,6 +1,6 @@
 -- The places that pass a test: how many, and which is the i-th.
-use mathlib.Core.Path.{_≡_, refl, sym, ap, ap₂, _∙_, subst}
-use mathlib.Core.Logic.{_≢_, _⊎_, inl, inr}
+use mathlib.Core.Path.{_≡_, refl, sym, ap, ap₂, _∙_}
+use mathlib.Core.Logic.{_≢_}
 use mathlib.Core.Bool.{Bool, true, false, cond, not, _&&_}
 use Prim.Native.Nat.{ℕ, zero, suc, _+_, _≤_, _<_}
 use native.Mathlib.Decide.{ℕ-discrete, decLt}
@@ -16,8 +16,7 @@ use Rattle.tableau_laws.specs.Places.{count, nth}
 use Rattle.tableau_laws.specs.Rules.{against-b}
 use Rattle.tableau_laws.specs.Tableaux.{labels}
 use Rattle.pauli_laws.proofs.Algebra.{pairing-lt}
-use Rattle.pauli_laws.proofs.Numbers.{bit-cases}
-use Rattle.tableau_laws.proofs.Answered.{eq-false, eq-true}
+use Rattle.tableau_laws.proofs.Tests.{eq-false, eq-true}
 
 module _ (t : ℕ → Bool) where
   count-one : (k : ℕ) → t k ≡ true → count t (suc k) ≡ suc (count t k)

@@ -1,15 +1,14 @@
 -- The opening words as sums of powers of two.
-use mathlib.Core.Path.{_≡_, refl, ap, ap₂, _∙_}
-use mathlib.Core.List.{List, [], _∷_}
+use mathlib.Core.Path.{_≡_, ap, ap₂, _∙_}
+use mathlib.Core.List.{List}
 use Prim.Native.Nat.{ℕ, zero, suc, _+_, _-_, _*_, _^_, _<_}
 use native.Mathlib.Nat.{pow-suc}
 use native.Mathlib.Omega.{arith}
 use lib.Pow.{pow-pos}
-use Rattle.pauli.specs.declared.label.Label.{Label}
 use Rattle.pauli.specs.declared.letter.Letter.{Letter}
-use Rattle.pauli.specs.declared.letter.Letter.the-variants.{I, X, Y, Z}
+use Rattle.pauli.specs.declared.letter.Letter.the-variants.{I, Y}
 use Rattle.pauli_laws.specs.Words.{word}
-use Rattle.tableau_laws.specs.Opening.{open-D, open-E, open-word, run}
+use Rattle.tableau_laws.specs.Opening.{run}
 
 -- letters that begin after h qubits
 pub I-words : (h : ℕ) (ls : List Letter) → (word (run h I ls) .x ≡ word ls .x * 2 ^ h) × (word (run h I ls) .z ≡ word ls .z * 2 ^ h)

@@ -12,7 +12,7 @@ use Rattle.pauli.specs.Bits.{odd}
 use Rattle.pauli.specs.Labels.{Within, fits, pairing, plus}
 use Rattle.pauli.specs.Rows.{times}
 use Rattle.phase.specs.LabelCases.{against}
-use Rattle.phase.specs.Sheets.{Sheet, Values}
+use Rattle.phase.specs.Sheets.{Values}
 use Rattle.pauli_laws.specs.Products.{chosen}
 use Rattle.tableau_laws.specs.Places.{total}
 use Rattle.tableau_laws.specs.Rules.{Lawful-rows, Rows, Same-rows, sheet-of}

@@ -1,14 +1,14 @@
 -- A tableau's sheet is the only lawful one of its size and width in which the rows have their signs.
 use mathlib.Core.Path.{_≡_, sym, ap, _∙_, subst}
-use mathlib.Core.Logic.{_⊎_, inl, inr}
+use mathlib.Core.Logic.{inl, inr}
 use mathlib.Core.Bool.{Bool, true, false}
-use Prim.Native.Nat.{ℕ, zero, suc, _+_, _≤_, _<_}
+use Prim.Native.Nat.{ℕ, zero, suc, _+_, _<_}
 use native.Mathlib.Omega.{arith}
 use Rattle.std.specs.declared.option.Option.the-variants.{Some}
 use Rattle.pauli.specs.declared.label.Label.{Label}
 use Rattle.pauli.specs.declared.row.Row.{Row}
-use Rattle.pauli.specs.Bits.{odd, xorb}
-use Rattle.pauli.specs.Labels.{beta, pairing, plus}
+use Rattle.pauli.specs.Bits.{odd}
+use Rattle.pauli.specs.Labels.{pairing}
 use Rattle.pauli.specs.Rows.{row, times}
 use Rattle.phase.specs.Sheets.{Lawful, Sheet, Values}
 use Rattle.pauli_laws.specs.Products.{chosen}

@@ -1,16 +1,12 @@
 -- A tableau gives a lawful sheet.
 use mathlib.Core.Path.{_≡_, refl, sym, ap, ap₂, _∙_, subst}
 use mathlib.Core.Logic.{_≢_, _⊎_, inl, inr}
-use mathlib.Core.Bool.{Bool, true, false, cond}
-use mathlib.Core.List.{List, [], _∷_}
-use Prim.Native.Nat.{ℕ, zero, suc, _+_, _-_, _*_, _/_, _%_, _^_, _≤_, _<_}
+use mathlib.Core.Bool.{Bool, false}
+use Prim.Native.Nat.{ℕ, zero, suc, _+_, _<_}
 use native.Mathlib.Omega.{arith}
 use native.Mathlib.Decide.{ℕ-discrete}
-use lib.Dec.{eqb}
-use lib.ListN.{length}
 use lib.Pow.{pow-pos}
-use Rattle.std.specs.declared.option.Option.{Option}
-use Rattle.std.specs.declared.option.Option.the-variants.{Some, None}
+use Rattle.std.specs.declared.option.Option.the-variants.{Some}
 use Rattle.pauli.specs.declared.label.Label.{Label}
 use Rattle.pauli.specs.declared.row.Row.{Row}
 use Rattle.pauli.specs.Bits.{odd, xorb}
@@ -33,9 +29,6 @@ pub label-of : {r s : Row} → r ≡ s → r .label ≡ s .label
 label-of e = ap (λ (r : Row). r .label) e
 
 module _ (n m w : ℕ) (D : ℕ → Label) (E J : ℕ → Row) (f : Values) (T : Tableau n m w D E J) (R : Given m w D E J f) where
-  abbrev k : ℕ
-  k = w + w + 1
-
   abbrev P : Label → Row
   P a = picked D E a m
 
@@ -113,9 +106,6 @@ module _ (n m w : ℕ) (D : ℕ → Label) (E J : ℕ → Row) (f : Values) (T :
 
   pub E-central : (i : ℕ) → i < m → Central f (E i .label)
   E-central i l = record { valued = (E i .sign, E-read i l); commutes = commutes (E i) (λ j k. T .ee i j l k) (λ q k. comm-swap (J q) (E i) (T .je q i k l)) }
-
-  abbrev es : List Label
-  es = tab (λ i. E i .label) m
 
   span-central : (a : Label) → Span (tab (λ i. E i .label) m) a → Central f a
   span-central a s =

@@ -1,10 +1,11 @@
 -- Tests and what they tell.
+use mathlib.Core.Logic.{_≢_}
 use mathlib.Core.Path.{_≡_, refl, sym, ap, _∙_, subst}
-use mathlib.Core.Bool.{Bool, true, false, cond, not, _&&_, Bool·beq}
+use mathlib.Core.Bool.{Bool, true, false, not, _&&_, Bool·beq}
 use Prim.Native.Nat.{ℕ, zero, suc, _≤_, _<_}
 use native.Mathlib.Decide.{ℕ-discrete}
 use native.Mathlib.Omega.{arith}
-use lib.Dec.{T, leb, leb→le, le→leb, ltb, lt→ltb, ltb→lt}
+use lib.Dec.{T, eqb, eqb-refl, eqb→eq, leb, leb→le, le→leb, ltb, lt→ltb, ltb→lt}
 use Rattle.pauli.specs.Bits.{odd}
 use Rattle.pauli_laws.specs.Words.{num}
 use Rattle.tableau_laws.specs.Places.{all-below}
@@ -19,6 +20,18 @@ is-false false t = refl
 
 pub holds : (p : Bool) → p ≡ true → T p
 holds p e = subst T (sym e) tt
+
+pub eq-of : (x y : ℕ) → eqb x y ≡ true → x ≡ y
+eq-of x y e = eqb→eq x y (subst T (sym e) tt)
+
+pub eq-true : (x y : ℕ) → x ≡ y → eqb x y ≡ true
+eq-true x y e = is-true (eqb x y) (subst (λ (z : ℕ). T (eqb x z)) e (eqb-refl x))
+
+pub ne-of : (x y : ℕ) → eqb x y ≡ false → x ≢ y
+ne-of x y e p = subst T (sym (eq-true x y p) ∙ e) tt
+
+pub eq-false : (x y : ℕ) → x ≢ y → eqb x y ≡ false
+eq-false x y ne = is-false (eqb x y) (λ t. ne (eqb→eq x y t))
 
 pub left : (p q : Bool) → (p && q) ≡ true → p ≡ true
 left true q e = refl
@@ -82,3 +95,17 @@ all-get (suc k) t e i l = go (all-get k t (left (all-below k t) (t k) e)) (ℕ-d
 pub all-make : (k : ℕ) (t : ℕ → Bool) → ((i : ℕ) → i < k → t i ≡ true) → all-below k t ≡ true
 all-make zero t h = refl
 all-make (suc k) t h = together (all-below k t) (t k) (all-make k t (λ i l. h i (omega arith))) (h k (omega arith))
+
+-- a search among the first N places
+pub seek : (N : ℕ) (P : ℕ → Type 0) → ((i : ℕ) → Dec (P i)) → Dec ((i : ℕ) × (i < N) × P i)
+seek zero P d = no (λ p. omega (arith, p .1))
+seek (suc N) P d = go (seek N P d) (d N)
+  where
+    go : Dec ((i : ℕ) × (i < N) × P i) → Dec (P N) → Dec ((i : ℕ) × (i < suc N) × P i)
+    go (yes p) e = yes (p .0, omega (arith, p .1), p .2)
+    go (no h) (yes p) = yes (N, omega arith, p)
+    go (no h) (no k) = no (λ p. by p (ℕ-discrete (p .0) N))
+      where
+        by : (p : (i : ℕ) × (i < suc N) × P i) → Dec (p .0 ≡ N) → ⊥
+        by p (yes e) = k (subst P e (p .2))
+        by p (no ne) = h (p .0, omega (arith, p .1, ne), p .2)

@@ -1,6 +1,6 @@
 -- The opening rows for n qubits and width w, letter by letter.
-use mathlib.Core.Bool.{Bool, false, cond}
-use mathlib.Core.List.{List, [], _∷_, _++_}
+use mathlib.Core.Bool.{cond}
+use mathlib.Core.List.{List, [], _∷_}
 use Prim.Native.Nat.{ℕ, zero, suc, _+_, _-_, _/_}
 use lib.Dec.{eqb}
 use Rattle.pauli.specs.declared.letter.Letter.{Letter}
@@ -8,7 +8,6 @@ use Rattle.pauli.specs.declared.letter.Letter.the-variants.{I, X, Y, Z}
 use Rattle.pauli.specs.declared.label.Label.{Label}
 use Rattle.pauli.specs.declared.row.Row.{Row}
 use Rattle.pauli.specs.Bits.{odd}
-use Rattle.pauli.specs.Rows.{row}
 use Rattle.pauli_laws.specs.Words.{word, positive}
 use Rattle.tableau_laws.specs.Rules.{Rows}
 

@@ -1,5 +1,5 @@
 -- A test of the pattern over 2n+1 given rows, and over the rows of a tableau.
-use mathlib.Core.Bool.{Bool, false, cond, not, _&&_, _||_, Bool·beq}
+use mathlib.Core.Bool.{Bool, not, _&&_, _||_, Bool·beq}
 use Prim.Native.Nat.{ℕ, _+_, _-_}
 use lib.Dec.{eqb, ltb, leb}
 use Rattle.pauli.specs.declared.label.Label.{Label}

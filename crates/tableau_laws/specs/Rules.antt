@@ -1,5 +1,5 @@
 -- The row rules: what a gate and a measurement make of a tableau's rows.
-use mathlib.Core.Bool.{Bool, true, false, cond, not, _&&_}
+use mathlib.Core.Bool.{Bool, false, cond, not, _&&_}
 use mathlib.Core.List.{List, [], _∷_}
 use mathlib.Core.Path.{_≡_}
 use Prim.Native.Nat.{ℕ, zero, suc, _+_, _-_, _<_}
@@ -15,8 +15,8 @@ use Rattle.pauli.specs.Labels.{plus, pairing}
 use Rattle.pauli.specs.Rows.{row, times}
 use Rattle.phase.specs.Effects.{first-coin}
 use Rattle.phase.specs.Sheets.{Sheet}
-use Rattle.tableau_laws.specs.Places.{count, glue, nth, total}
-use Rattle.tableau_laws.specs.Tableaux.{Tableau, labels, picked, sign-read, look-of, tableau-sheet}
+use Rattle.tableau_laws.specs.Places.{glue, nth, total}
+use Rattle.tableau_laws.specs.Tableaux.{Tableau, picked, sign-read, look-of, tableau-sheet}
 
 -- the rows: m destabilizers, m stabilizers and 2w+1 Jordan-Wigner rows, in this order. Places beyond these mean nothing
 pub record Rows : Type 0 where

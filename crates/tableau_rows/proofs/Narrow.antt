@@ -60,19 +60,19 @@ module _ (m w t found word : ℕ) (ds ds′ : List Label) (es es′ xs ys : List
             glued m t (λ i. label-in ds′ i ≡ glue m (label-in ds) (dest (g-of b v R)) i)
             (λ i lt. paired .D-old i lt ∙ sym (glue-low m (label-in ds) (dest (g-of b v R)) i lt))
             (λ i le lt.
-              let at : m + (i - m) ≡ i = omega arith in
-              ap (label-in ds′) (sym at) ∙ paired .D-new (i - m) (omega arith)
-              ∙ ap₂ plus (same (i - m + (i - m) + 1) (omega arith)) (total-same g (g-of b v R) (i - m + (i - m)) (λ j lj. same j (omega arith)))
-              ∙ sym (glue-high m (label-in ds) (dest (g-of b v R)) i le));
+            let at : m + (i - m) ≡ i = omega arith in
+            ap (label-in ds′) (sym at) ∙ paired .D-new (i - m) (omega arith)
+            ∙ ap₂ plus (same (i - m + (i - m) + 1) (omega arith)) (total-same g (g-of b v R) (i - m + (i - m)) (λ j lj. same j (omega arith)))
+            ∙ sym (glue-high m (label-in ds) (dest (g-of b v R)) i le));
         E-is =
             glued m t (λ i. row-in es′ i ≡ glue m (row-in es) (λ k. row (stab (g-of b v R) k) (new-sign first word k)) i)
             (λ i lt. paired .E-old i lt ∙ sym (glue-low m (row-in es) (λ k. row (stab (g-of b v R) k) (new-sign first word k)) i lt))
             (λ i le lt.
-              let at : m + (i - m) ≡ i = omega arith in
-              ap (row-in es′) (sym at) ∙ paired .E-new (i - m) (omega arith)
-              ∙ ap (λ (l : Label). row l (new-sign first word (i - m)))
-                (ap₂ plus (same (i - m + (i - m)) (omega arith)) (total-same g (g-of b v R) (i - m + (i - m)) (λ j lj. same j (omega arith))))
-              ∙ sym (glue-high m (row-in es) (λ k. row (stab (g-of b v R) k) (new-sign first word k)) i le));
+            let at : m + (i - m) ≡ i = omega arith in
+            ap (row-in es′) (sym at) ∙ paired .E-new (i - m) (omega arith)
+            ∙ ap (λ (l : Label). row l (new-sign first word (i - m)))
+            (ap₂ plus (same (i - m + (i - m)) (omega arith)) (total-same g (g-of b v R) (i - m + (i - m)) (λ j lj. same j (omega arith))))
+            ∙ sym (glue-high m (row-in es) (λ k. row (stab (g-of b v R) k) (new-sign first word k)) i le));
         J-is = λ i lt. parted .qs i (omega arith);
       }
     where

@@ -23,16 +23,9 @@ use Rattle.pauli_laws.proofs.Products.{times-zero}
 use Rattle.pauli_laws.proofs.Signs.{num-odd}
 use Rattle.tableau_laws.specs.Tableaux.{picked, fellow}
 
--- ---- whether labels anticommute, as a number and as a test
-
-pub pairing-num : (a b : Label) → pairing a b ≡ num (odd (pairing a b))
+-- whether labels anticommute, as a number
+pairing-num : (a b : Label) → pairing a b ≡ num (odd (pairing a b))
 pairing-num a b = sym (num-odd (pairing a b) ∙ mod-eq-of-lt (pairing-lt a b))
-
-pub pairing-one : (a b : Label) → odd (pairing a b) ≡ true → pairing a b ≡ 1
-pairing-one a b e = pairing-num a b ∙ ap num e
-
-pub pairing-none : (a b : Label) → odd (pairing a b) ≡ false → pairing a b ≡ 0
-pairing-none a b e = pairing-num a b ∙ ap num e
 
 -- ---- one place more
 

@@ -20,10 +20,24 @@ pub struct RowStore {
     ghost room: { (length destabilizers ≡ 64) × (length stabilizers ≡ 64) × (length «jordan_wigner» ≡ 129) },
 }
 
-pub mod questions;
+impl RowStore {
+    pub fn size(&self) -> u32
+        ensures { λ r. ⌜ r ≡ now (self .entry) .size ⌝ }
+    {
+        self.size
+    }
+
+    pub fn width(&self) -> u32
+        ensures { λ r. ⌜ r ≡ now (self .entry) .width ⌝ }
+    {
+        self.width
+    }
+}
+
 pub mod gates;
 pub mod measuring;
-mod passes;
 pub mod opening;
-pub mod readers;
+mod passes;
 mod pattern;
+pub mod questions;
+pub mod readers;

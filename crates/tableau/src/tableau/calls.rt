@@ -76,7 +76,7 @@ impl Tableau {
     pub fn measure_rows(&mut self, b: Label, sign: bool, coins: u64) -> Result<bool, Fault>
         ensures done { λ r. ⌜ Answers (labelFault (sizeOf (now (self .entry))) b)
             (λ o. (o ≡ outcomeOf b sign coins (rowsOf (now (self .entry)))) × (sizeOf (now (self .exit)) ≡ sizeOf (now (self .entry)))
-                × SameRows (measuredRows b sign coins (rowsOf (now (self .entry)))) (rowsOf (now (self .exit)))) r ⌝ }
+            × SameRows (measuredRows b sign coins (rowsOf (now (self .entry)))) (rowsOf (now (self .exit)))) r ⌝ }
         ensures kept { λ r. ⌜ (isErr r ≡ true → now (self .exit) ≡ now (self .entry)) ⌝ }
     {
         if !b.fits(self.rows.size()) {

@@ -71,7 +71,15 @@ impl RowStore {
         let found = passes::part(&mut self.jordan_wigner, turning, b, first, &mut turned);
         turned[0] = first.label;
         let more = found / 2;
-        passes::pair_up(&turned, more, first, coins, pairs, &mut self.destabilizers, &mut self.stabilizers);
+        passes::pair_up(
+            &turned,
+            more,
+            first,
+            coins,
+            pairs,
+            &mut self.destabilizers,
+            &mut self.stabilizers,
+        );
         self.width -= more as u32;
     }
 

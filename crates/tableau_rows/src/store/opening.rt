@@ -122,7 +122,9 @@ impl RowStore {
         if rows.len() != (n + n + 1) as usize {
             return Err(Fault::BadRows);
         }
-        if !(pattern::places_ok(n, pairs, rows) && pattern::sum_ok(pairs, width, rows) && pattern::signs_ok(pairs, width, rows)) {
+        if !(pattern::places_ok(n, pairs, rows)
+            && pattern::sum_ok(pairs, width, rows)
+            && pattern::signs_ok(pairs, width, rows)) {
             return Err(Fault::BadRows);
         }
         let mut destabilizers = [Label { x: 0, z: 0 }; 64];

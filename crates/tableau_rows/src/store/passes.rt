@@ -56,7 +56,11 @@ pub(crate) fn clear_labels(labels: &mut [Label], count: usize, b: Label, e: Labe
 {
     for i in 0..count {
         let label = labels[i];
-        labels[i] = if label.anticommutes(b) { label.product(e) } else { label };
+        labels[i] = if label.anticommutes(b) {
+            label.product(e)
+        } else {
+            label
+        };
     }
 }
 
@@ -67,7 +71,11 @@ pub(crate) fn clear_rows(rows: &mut [Row], count: usize, b: Label, e: Row)
 {
     for i in 0..count {
         let row = rows[i];
-        rows[i] = if row.label.anticommutes(b) { row.times(e) } else { row };
+        rows[i] = if row.label.anticommutes(b) {
+            row.times(e)
+        } else {
+            row
+        };
     }
 }
 
@@ -96,12 +104,24 @@ fn new_sign(g: Row, coins: u64, k: usize) -> bool
     requires { ⌜ k < 64 ⌝ }
     ensures { λ r. ⌜ r ≡ newSign g coins k ⌝ }
 {
-    if k == 0 { g.sign } else { (coins >> k) % 2 == 1 }
+    if k == 0 {
+        g.sign
+    } else {
+        (coins >> k) % 2 == 1
+    }
 }
 
 // Each two labels make a stabilizer and its destabilizer, with the sum of all labels before the two added to both.
 // They are written from place `at` on.
-pub(crate) fn pair_up(labels: &[Label], pairs: usize, g: Row, coins: u64, at: usize, destabilizers: &mut [Label], stabilizers: &mut [Row])
+pub(crate) fn pair_up(
+    labels: &[Label],
+    pairs: usize,
+    g: Row,
+    coins: u64,
+    at: usize,
+    destabilizers: &mut [Label],
+    stabilizers: &mut [Row],
+)
     requires { ⌜ pairs + pairs ≤ length (now labels) ⌝ ∗ ⌜ pairs ≤ 64 ⌝ ∗ ⌜ at + pairs ≤ length (now destabilizers) ⌝ ∗ ⌜ at + pairs ≤ length (now stabilizers) ⌝ ∗ ⌜ at ≤ 64 ⌝ }
     ensures { λ _. ⌜ Paired at (labelIn (now (labels .entry))) g coins (now (destabilizers .entry)) (now (destabilizers .exit)) (now (stabilizers .entry)) (now (stabilizers .exit)) pairs ⌝ }
 {

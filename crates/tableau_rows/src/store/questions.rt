@@ -17,18 +17,6 @@ pub(crate) const ZERO: Row = Row {
 };
 
 impl RowStore {
-    pub fn size(&self) -> u32
-        ensures { λ r. ⌜ r ≡ now (self .entry) .size ⌝ }
-    {
-        self.size
-    }
-
-    pub fn width(&self) -> u32
-        ensures { λ r. ⌜ r ≡ now (self .entry) .width ⌝ }
-    {
-        self.width
-    }
-
     // How many destabilizers there are, and how many stabilizers.
     pub(crate) fn pairs(&self) -> usize
         ensures { λ r. ⌜ r ≡ now (self .entry) .size - now (self .entry) .width ⌝ }

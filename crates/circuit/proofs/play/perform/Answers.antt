@@ -12,20 +12,20 @@ returns-in-Break-measure g c =
     let read = c .in-Continue-label .ensures tt .1 in
     record {
       done =
-        as-said _ _ _ (ap said (c .in-Measure .is))
-        (performed-stops _ _ _ _ _ (c .from-residual-in-Break-measure .ensures .1)
+          as-said _ _ _ (ap said (c .in-Measure .is))
+          (performed-stops _ _ _ _ _ (c .from-residual-in-Break-measure .ensures .1)
           (measure-refused _ (c .in-Continue-label .label) (c .in-Measure .sign) (c .in-Measure .letters .now)
-            (subst (λ (k : ℕ). Within k (c .in-Continue-label .label)) n (read .0))
-            (read .1 ∙ ap (λ (k : ℕ). label-text k (c .in-Continue-label .label)) n)
-            _ _ (c .in-Break-measure .ensures tt .step)));
+          (subst (λ (k : ℕ). Within k (c .in-Continue-label .label)) n (read .0))
+          (read .1 ∙ ap (λ (k : ℕ). label-text k (c .in-Continue-label .label)) n)
+          _ _ (c .in-Break-measure .ensures tt .step)));
       kept = λ _. c .in-Break-measure .ensures tt .kept refl;
     }
 
 pub returns-in-Break-conditional : need.returns-in-Break-conditional
 returns-in-Break-conditional g c = record {
   done =
-    as-said _ _ _ (ap said (c .in-Conditional .is))
-    (performed-stops _ _ _ _ _ (c .from-residual-in-Break-conditional .ensures .1)
+      as-said _ _ _ (ap said (c .in-Conditional .is))
+      (performed-stops _ _ _ _ _ (c .from-residual-in-Break-conditional .ensures .1)
       (conditional-refused _ (c .in-Conditional .outcome) (c .in-Conditional .gate) (c .in-Conditional .qubit) _ _ (c .in-Break-conditional .ensures tt .step)));
   kept = λ _. c .in-Break-conditional .ensures tt .kept refl;
 }
@@ -42,8 +42,8 @@ returns-in-Continue-measure g c =
     let read = c .in-Continue-label .ensures tt .1 in
     record {
       done =
-        done-said (ap said (c .in-Measure .is))
-        (measure-done _ (c .in-Continue-label .label) (c .in-Measure .sign) (c .in-Measure .letters .now)
+          done-said (ap said (c .in-Measure .is))
+          (measure-done _ (c .in-Continue-label .label) (c .in-Measure .sign) (c .in-Measure .letters .now)
           (subst (λ (k : ℕ). Within k (c .in-Continue-label .label)) n (read .0))
           (read .1 ∙ ap (λ (k : ℕ). label-text k (c .in-Continue-label .label)) n)
           _ _ (c .in-Continue-measure .ensures tt .step));
@@ -53,7 +53,7 @@ returns-in-Continue-measure g c =
 pub returns-in-Continue-conditional : need.returns-in-Continue-conditional
 returns-in-Continue-conditional g c = record {
   done =
-    done-said (ap said (c .in-Conditional .is))
-    (conditional-done _ (c .in-Conditional .outcome) (c .in-Conditional .gate) (c .in-Conditional .qubit) _ _ (c .in-Continue-conditional .ensures tt .step));
+      done-said (ap said (c .in-Conditional .is))
+      (conditional-done _ (c .in-Conditional .outcome) (c .in-Conditional .gate) (c .in-Conditional .qubit) _ _ (c .in-Continue-conditional .ensures tt .step));
   kept = search needs;
 }

@@ -9,7 +9,7 @@ abbrev pub Inv-loop-line : given.InvT-loop-line
 Inv-loop-line g l =
     (l .reader .text ≡ l .entry .reader .text)
     × So-far (seen (g .P·ValueSheet .sheet) (g .S·CoinSource .coins) (l .entry .session)) (drop (l .entry .reader .at) (l .entry .reader .text .now))
-      (seen (g .P·ValueSheet .sheet) (g .S·CoinSource .coins) (l .session)) (l .line) (drop (l .reader .at) (l .reader .text .now))
+    (seen (g .P·ValueSheet .sheet) (g .S·CoinSource .coins) (l .session)) (l .line) (drop (l .reader .at) (l .reader .text .now))
     × (l .line + l .line ≤ l .reader .at + 6)
 
 abbrev pub μ-loop-line : given.MeasureT-loop-line

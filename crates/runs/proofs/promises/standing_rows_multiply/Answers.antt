@@ -1,3 +1,4 @@
+-- The value of a product of standing rows.
 use Rattle.runs.proofs.Rows.{product-value}
 use Rattle.runs.proofs.promises.standing_rows_multiply.Needs as need
 

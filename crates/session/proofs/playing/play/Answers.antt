@@ -1,3 +1,4 @@
+-- One more call, and the end of the list.
 use borrow.Author.Needs.{needs}
 use mathlib.Core.List.{List, []}
 use mathlib.Core.Path.{_≡_, sym, ap, subst, _∙_}

@@ -1,3 +1,4 @@
+-- After i calls: a run of these calls and answers, and the other answers as they were.
 use mathlib.Core.Path.{_≡_}
 use lib.ListN.{length, take, drop}
 use Rattle.runs.proofs.Reached.{Reached}

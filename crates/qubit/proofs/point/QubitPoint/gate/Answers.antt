@@ -1,3 +1,4 @@
+-- A gate on the one qubit.
 use borrow.Author.Needs.{needs}
 use mathlib.Core.Path.{_≡_, sym, ap, subst, _∙_}
 use Rattle.std.specs.declared.option.Option.the-variants.{None}

@@ -1,3 +1,4 @@
+-- A look at a letter.
 use mathlib.Core.Path.{_≡_, sym, subst, ap, _∙_}
 use Prim.Native.Nat.{ℕ}
 use Rattle.pauli.specs.declared.case.Case.{Case}

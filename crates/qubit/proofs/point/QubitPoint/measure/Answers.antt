@@ -1,3 +1,4 @@
+-- A measurement, with a coin 1 and with a coin 0.
 use borrow.Author.Needs.{needs}
 use mathlib.Core.Bool.{Bool, true, false}
 use mathlib.Core.Path.{_≡_, refl, sym, ap, _∙_}

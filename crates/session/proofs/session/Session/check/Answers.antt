@@ -1,3 +1,4 @@
+-- A size from 1 to 64 leaves only the qubits to refuse.
 use borrow.Author.Needs.{needs}
 use mathlib.Core.Path.{_≡_, sym, ap, _∙_}
 use Rattle.std.specs.declared.option.Option.the-variants.{Some, None}

@@ -1,3 +1,4 @@
+-- What is recorded is lawful.
 use borrow.Author.Needs.{needs}
 use Rattle.session.proofs.Lawful.{there, conditional-sound}
 use Rattle.session.proofs.session.Session.conditional.Needs as need

@@ -1,3 +1,4 @@
+-- Too few coins change nothing; what is recorded is lawful; and what the point did is what the look foretold.
 use borrow.Author.Needs.{needs}
 use mathlib.Core.Logic.{inr}
 use mathlib.Core.Bool.{true}

@@ -1,3 +1,4 @@
+-- A reading is the line of the entry.
 use mathlib.Core.Path.{_≡_, subst}
 use Rattle.std.proofs.shelf.Results.{err-from-errBy}
 use Rattle.text.specs.Lines.{Filled}

@@ -1,3 +1,4 @@
+-- What is written to a part of a page.
 use native.Mathlib.Omega.{arith}
 use Prim.Native.Nat.{_-_}
 use Rattle.runs.proofs.Readings.{read-part}

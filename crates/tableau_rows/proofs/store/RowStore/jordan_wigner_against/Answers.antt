@@ -19,6 +19,6 @@ pub loop-j-again : need.loop-j-again
 loop-j-again c =
     let more = against-more (labels (J-of (c .args .self .now))) (c .args .b) (c .loop-j .j) in
     elim (c .if-anticommutes .came) [
-      then-anticommutes w ↦ omega (arith, more true (sym (w .if-anticommutes .ensures tt)), w .count-is, c .loop-j .inv)
+      | then-anticommutes w ↦ omega (arith, more true (sym (w .if-anticommutes .ensures tt)), w .count-is, c .loop-j .inv)
       | else-anticommutes w ↦ omega (arith, more false (sym (w .if-anticommutes .ensures tt)), w .count-is, c .loop-j .inv)
     ]

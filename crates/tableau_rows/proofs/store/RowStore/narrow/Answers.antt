@@ -16,11 +16,11 @@ returns c =
     let some : 0 < length ls = omega arith in
     record {
       rows = λ t e.
-        three-from (s .size - s .width) (s .width) t found (c .args .coins) (s .destabilizers) (c .pair-up .last .destabilizers) (s .stabilizers) (c .pair-up .last .stabilizers)
-        (s .«jordan_wigner») (c .part-found .last .rows) ls (c .args .b) (c .args .value)
-        (s .size) (s .size - (s .width - found / 2)) (s .width - found / 2) (c .turning-turning .result) (c .pairs-pairs .result) (found / 2) (c .times-first .result)
-        (s .narrow) refl refl refl refl some (c .turning-turning .ensures) (c .pairs-pairs .ensures)
-        (c .times-first .ensures ∙ ap (times (row (c .args .b) (c .args .value))) (c .picked .ensures))
-        (c .part-found .ensures .is) (c .pair-up .ensures) e;
+          three-from (s .size - s .width) (s .width) t found (c .args .coins) (s .destabilizers) (c .pair-up .last .destabilizers) (s .stabilizers) (c .pair-up .last .stabilizers)
+          (s .«jordan_wigner») (c .part-found .last .rows) ls (c .args .b) (c .args .value)
+          (s .size) (s .size - (s .width - found / 2)) (s .width - found / 2) (c .turning-turning .result) (c .pairs-pairs .result) (found / 2) (c .times-first .result)
+          (s .narrow) refl refl refl refl some (c .turning-turning .ensures) (c .pairs-pairs .ensures)
+          (c .times-first .ensures ∙ ap (times (row (c .args .b) (c .args .value))) (c .picked .ensures))
+          (c .part-found .ensures .is) (c .pair-up .ensures) e;
       size = refl;
     }

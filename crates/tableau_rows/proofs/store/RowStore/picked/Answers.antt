@@ -13,7 +13,7 @@ loop-j-again c =
     let j = c .loop-j .j in
     let more = picked-more (D-of s) (E-of s) (c .args .b) j in
     elim (c .if-anticommutes .came) [
-      then-anticommutes w ↦
-        w .product-is ∙ w .times-product .ensures ∙ ap (λ (p : Row). times p (E-of s j)) (c .loop-j .inv) ∙ sym (more true (sym (w .if-anticommutes .ensures tt)))
+      | then-anticommutes w ↦
+          w .product-is ∙ w .times-product .ensures ∙ ap (λ (p : Row). times p (E-of s j)) (c .loop-j .inv) ∙ sym (more true (sym (w .if-anticommutes .ensures tt)))
       | else-anticommutes w ↦ w .product-is ∙ c .loop-j .inv ∙ sym (more false (sym (w .if-anticommutes .ensures tt)))
     ]

@@ -20,7 +20,7 @@ pub loop-i-again : need.loop-i-again
 loop-i-again c =
     let x = getD (c .loop-i .labels) (c .loop-i .i) zeroLabel in
     let is : c .if-anticommutes .labels ≡ cleared (c .args .b) (c .args .e) x = elim (c .if-anticommutes .came) [
-      then-anticommutes w ↦ w .labels-is ∙ w .product .ensures ∙ ap (λ (t : Bool). cond t (plus x (c .args .e)) x) (w .if-anticommutes .ensures tt)
+      | then-anticommutes w ↦ w .labels-is ∙ w .product .ensures ∙ ap (λ (t : Bool). cond t (plus x (c .args .e)) x) (w .if-anticommutes .ensures tt)
       | else-anticommutes w ↦ w .labels-is ∙ ap (λ (t : Bool). cond t (plus x (c .args .e)) x) (w .if-anticommutes .ensures tt)
     ] in
     changed-more zeroLabel (cleared (c .args .b) (c .args .e)) (c .args .labels .now) (c .loop-i .labels) (c .loop-i .i) _ (omega arith) is (c .loop-i .inv)

@@ -20,7 +20,7 @@ pub loop-i-again : need.loop-i-again
 loop-i-again c =
     let x = getD (c .loop-i .rows) (c .loop-i .i) zeroRow in
     let is : c .if-anticommutes .rows ≡ clearedRow (c .args .b) (c .args .e) x = elim (c .if-anticommutes .came) [
-      then-anticommutes w ↦ w .rows-is ∙ w .times .ensures ∙ ap (λ (t : Bool). cond t (times x (c .args .e)) x) (w .if-anticommutes .ensures tt)
+      | then-anticommutes w ↦ w .rows-is ∙ w .times .ensures ∙ ap (λ (t : Bool). cond t (times x (c .args .e)) x) (w .if-anticommutes .ensures tt)
       | else-anticommutes w ↦ w .rows-is ∙ ap (λ (t : Bool). cond t (times x (c .args .e)) x) (w .if-anticommutes .ensures tt)
     ] in
     changed-more zeroRow (clearedRow (c .args .b) (c .args .e)) (c .args .rows .now) (c .loop-i .rows) (c .loop-i .i) _ (omega arith) is (c .loop-i .inv)

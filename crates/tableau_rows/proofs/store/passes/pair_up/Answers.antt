@@ -21,9 +21,9 @@ loop-k-again c =
     let sum = c .loop-k .inv .0 in (
       c .product-sum .ensures ∙ ap₂ plus (ap g after) (c .product-in-loop-k-2 .ensures ∙ ap₂ plus (ap g even) sum) ∙ sym (total-two g k),
       paired-more (c .args .at) g (c .args .g) (c .args .coins) (c .args .destabilizers .now) (c .loop-k .destabilizers) (c .args .stabilizers .now) (c .loop-k .stabilizers) k
-      (c .product-in-loop-k .result) (row (c .product .result) (c .new-sign .result)) (c .loop-k .inv .1) (omega arith) (omega arith)
-      (c .product-in-loop-k .ensures ∙ ap₂ plus (ap g after) sum)
-      (ap₂ row (c .product .ensures ∙ ap₂ plus (ap g even) sum) (c .new-sign .ensures)),
+          (c .product-in-loop-k .result) (row (c .product .result) (c .new-sign .result)) (c .loop-k .inv .1) (omega arith) (omega arith)
+          (c .product-in-loop-k .ensures ∙ ap₂ plus (ap g after) sum)
+          (ap₂ row (c .product .ensures ∙ ap₂ plus (ap g even) sum) (c .new-sign .ensures)),
     )
 
 pub returns : need.returns

@@ -27,12 +27,12 @@ loop-i-again c =
     let less = c .loop-i .inv .1 in
     let here : against-b (row-in xs) b i ≡ odd (pairing (row-in ys i .label) b) = ap (λ (r : Row). odd (pairing (r .label) b)) (sym (was .rest i (omega arith))) in
     elim (c .if-anticommutes .came) [
-      then-anticommutes w ↦
-        rw (w .rows-is, w .turned-is, w .found-is)
-        (parted-yes b g xs ys ls i found was (row-in ys i .label) (here ∙ sym (w .if-anticommutes .ensures tt)) (omega arith) refl, omega arith)
+      | then-anticommutes w ↦
+          rw (w .rows-is, w .turned-is, w .found-is)
+          (parted-yes b g xs ys ls i found was (row-in ys i .label) (here ∙ sym (w .if-anticommutes .ensures tt)) (omega arith) refl, omega arith)
       | else-anticommutes w ↦
-        rw (w .rows-is, w .turned-is, w .found-is)
-        (parted-no b g xs ys ls i found was (w .times .result) (here ∙ sym (w .if-anticommutes .ensures tt)) (omega arith) (w .times .ensures), omega arith)
+          rw (w .rows-is, w .turned-is, w .found-is)
+          (parted-no b g xs ys ls i found was (w .times .result) (here ∙ sym (w .if-anticommutes .ensures tt)) (omega arith) (w .times .ensures), omega arith)
     ]
 
 pub returns : need.returns

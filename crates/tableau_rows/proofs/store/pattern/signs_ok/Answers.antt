@@ -12,7 +12,7 @@ returns-then-rows-i c =
     let rows = c .args .rows .now in
     let t : ℕ → Bool = λ i. not (row-in rows i .sign) in
     sym (ap (λ (p : Bool). p && (ltb 0 (c .args .width) || not (row-in rows (c .args .pairs + c .args .pairs) .sign)))
-      (all-not t (c .args .pairs) (c .loop-i .i) (c .loop-i-test .taken) (ap not (c .if-rows-i .taken))))
+    (all-not t (c .args .pairs) (c .loop-i .i) (c .loop-i-test .taken) (ap not (c .if-rows-i .taken))))
 
 pub loop-i-again : need.loop-i-again
 loop-i-again c =

@@ -1,0 +1,10 @@
+use Prim.Native.Nat.{_-_, _≤_}
+use lib.ListN.{length}
+use Rattle.explain.proofs.main.Given as given
+
+-- no more lines than bytes
+abbrev pub Inv-loop-at : given.InvT-loop-at
+Inv-loop-at l = (l .line ≤ l .at) × (l .at ≤ length (l .text))
+
+abbrev pub μ-loop-at : given.MeasureT-loop-at
+μ-loop-at l = length (l .text) - l .at
