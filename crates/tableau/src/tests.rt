@@ -75,6 +75,22 @@ fn a_run_of_width_0() -> Result<(), Fail> {
     check_eq(t.row(5), Some(row(false, b"II", 2)?))
 }
 
+// On every width of four qubits a measured label has its outcome's value, and the width never grows.
+#[test]
+fn runs_on_all_widths() -> Result<(), Fail> {
+    let zzzz = Label::from_letters(4, b"ZZZZ")?;
+    let xixi = Label::from_letters(4, b"XIXI")?;
+    for w in 0..5 {
+        let mut t = Tableau::open(4, w)?;
+        let first = t.measure(zzzz, false, 5)?;
+        check_eq(t.value(zzzz), Ok(Some(first)))?;
+        let second = t.measure(xixi, true, 2)?;
+        check_eq(t.value(xixi), Ok(Some(!second)))?;
+        check(t.width() <= w)?;
+    }
+    Ok(())
+}
+
 #[test]
 fn calls_are_refused() -> Result<(), Fail> {
     check_eq(Tableau::open(0, 1).err(), Some(Fault::BadSize))?;
