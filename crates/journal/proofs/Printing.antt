@@ -17,5 +17,5 @@ low-bit w = go (eqb (w % 2) 1) refl
     go true e = sym (eqb-true (w % 2) 1 e)
     go false e = let n = eqb-false (w % 2) 1 e in omega arith
 
-pub went-well : {T E : Type 0} {r : Result T E} {x : T} → r ≡ Ok x → isOk r ≡ true
-went-well e = ap isOk e
+pub went-well : {T E : Type 0} (r : Result T E) (x : T) → r ≡ Ok x → isOk r ≡ true
+went-well r x e = ap isOk e

@@ -1,3 +1,4 @@
 pub mod Places
 pub mod Journals
 pub mod Words
+pub mod Explained

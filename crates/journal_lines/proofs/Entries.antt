@@ -6,8 +6,8 @@ use mathlib.Core.List.{List, [], _∷_, _++_, append-assoc}
 use Prim.Native.Nat.{ℕ, _+_, _^_, _<_, _≤_}
 use native.Mathlib.Omega.{arith}
 use lib.Dec.{eqb, leb, ltb}
-use lib.ListN.{length, drop, length-drop}
-use Rattle.std.proofs.shelf.Lists.{drop-all}
+use lib.ListN.{length, drop, length-drop, length-append}
+use Rattle.std.proofs.shelf.Lists.{drop-all, append-nil}
 use Rattle.std.proofs.shelf.Tests.{and-parts, leb-true, ltb-true, both-ways}
 use Rattle.std.proofs.shelf.Ways.{tells}
 use Rattle.std.specs.declared.option.Option.the-variants.{Some, None}
@@ -29,7 +29,7 @@ use Rattle.journal_lines.specs.declared.entry.Entry.{Entry}
 use Rattle.journal_lines.specs.declared.event.Event.{Event}
 use Rattle.journal_lines.specs.declared.event.Event.the-variants as E
 use Rattle.journal_lines.specs.declared.event.Measurement.{Measurement}
-use Rattle.journal_lines.specs.Entries.{entry-line, ReadsLine}
+use Rattle.journal_lines.specs.Entries.{entry-line, ReadsEntry}
 use Rattle.journal_lines.specs.Lawful.{count-ok, first-ok, measured-ok, numbered, sound, lawful, making-fault}
 use Rattle.journal_lines.specs.Lines.{line}
 use Rattle.journal_lines.specs.Parts.{Drawn, Sized, Measured, event-text, Readable}
@@ -86,41 +86,38 @@ line-event k (E.Gate g) = refl
 line-event k (E.Conditional done o g q) = simp append-assoc
 line-event k (E.Measurement m) = simp append-assoc
 
-module _ (t : List ℕ) where
-  pub no-number : Miss num Short 44 t 0 → (f : Entry) → t ≡ entry-line f → ⊥
-  no-number miss f e =
-      let l = and-parts (numbered (f .number)) (sound (f .number) (f .event)) (f .lawful) in
-      miss .never (f .number) (event-text (f .event) ++ 10 ∷ []) (number-read (f .number) (l .0)) (e ∙ line-event (f .number) (f .event))
+-- the line of an entry, and what follows it
+line-rest : (f : Entry) (rest : List ℕ) → entry-line f ++ rest ≡ num (f .number) ++ 44 ∷ (event-text (f .event) ++ 10 ∷ rest)
+line-rest f rest =
+    ap (λ l. l ++ rest) (line-event (f .number) (f .event)) ∙ append-assoc (num (f .number)) (44 ∷ (event-text (f .event) ++ 10 ∷ [])) rest
+    ∙ ap (λ l. num (f .number) ++ 44 ∷ l) (append-assoc (event-text (f .event)) (10 ∷ []) rest)
 
-  module _ (n at : ℕ) (number : Hit num Short 44 t 0 n at) where
-    entry-seen : (f : Entry) → t ≡ entry-line f → (f .number ≡ n) × Readable (f .event) × (drop at t ≡ event-text (f .event) ++ 10 ∷ [])
-    entry-seen f e =
+module _ (t : List ℕ) (at : ℕ) where
+  pub no-number : Miss num Short 44 t at → (f : Entry) (rest : List ℕ) → drop at t ≡ entry-line f ++ rest → ⊥
+  no-number miss f rest e =
+      let l = and-parts (numbered (f .number)) (sound (f .number) (f .event)) (f .lawful) in
+      miss .never (f .number) (event-text (f .event) ++ 10 ∷ rest) (number-read (f .number) (l .0)) (e ∙ line-rest f rest)
+
+  module _ (n from : ℕ) (number : Hit num Short 44 t at n from) where
+    entry-seen : (f : Entry) (rest : List ℕ) → drop at t ≡ entry-line f ++ rest → (f .number ≡ n) × Readable (f .event) × (drop from t ≡ event-text (f .event) ++ 10 ∷ rest)
+    entry-seen f rest e =
         let l = and-parts (numbered (f .number)) (sound (f .number) (f .event)) (f .lawful) in
-        let o = number .only (f .number) (event-text (f .event) ++ 10 ∷ []) (number-read (f .number) (l .0)) (e ∙ line-event (f .number) (f .event)) in
+        let o = number .only (f .number) (event-text (f .event) ++ 10 ∷ rest) (number-read (f .number) (l .0)) (e ∙ line-rest f rest) in
         (o .0, event-read (f .number) (f .event) (l .0) (l .1), sym (o .1))
 
-    pub no-event : Miss event-text Readable 10 t at → (f : Entry) → t ≡ entry-line f → ⊥
-    no-event miss f e = let s = entry-seen f e in miss .never (f .event) [] (s .1) (s .2)
+    pub no-event : Miss event-text Readable 10 t from → (f : Entry) (rest : List ℕ) → drop at t ≡ entry-line f ++ rest → ⊥
+    no-event miss f rest e = let s = entry-seen f rest e in miss .never (f .event) rest (s .1) (s .2)
 
-    module _ (v : Event) (to : ℕ) (event : Hit event-text Readable 10 t at v to) where
-      entry-only : (f : Entry) → t ≡ entry-line f → (f .number ≡ n) × (f .event ≡ v) × ([] ≡ drop to t)
-      entry-only f e = let s = entry-seen f e in let o = event .only (f .event) [] (s .1) (s .2) in (s .0, o .0, o .1)
+    module _ (v : Event) (to : ℕ) (event : Hit event-text Readable 10 t from v to) where
+      entry-only : (f : Entry) (rest : List ℕ) → drop at t ≡ entry-line f ++ rest → (f .number ≡ n) × (f .event ≡ v) × (rest ≡ drop to t)
+      entry-only f rest e = let s = entry-seen f rest e in let o = event .only (f .event) rest (s .1) (s .2) in (s .0, o .0, o .1)
 
-      -- more text than a line
-      pub no-end : to < length t → (f : Entry) → t ≡ entry-line f → ⊥
-      no-end h f e = let o = entry-only f e in omega (arith, ap length (o .2), length-drop to t)
-
-      -- a line of the form, whose entry may still not be lawful
-      pub read-new : length t ≤ to → (r : Result Entry Fault) → Answers (making-fault n v) (λ e. (e .number ≡ n) × (e .event ≡ v)) r → ReadsLine t r
-      read-new h (Ok e) told =
-          let is : t ≡ line n v = number .is ∙ ap (λ x. num n ++ 44 ∷ x) (event .is ∙ ap (λ x. event-text v ++ 10 ∷ x) (drop-all to t h)) ∙ sym (line-event n v) in (
-            is ∙ (λ i. line (sym (told .1 .0) i) (sym (told .1 .1) i)),
-            λ f g. let o = entry-only f g in entry-same f e (o .0 ∙ sym (told .1 .0)) (o .1 ∙ sym (told .1 .1)),
-          )
-      read-new h (Err x) told = (
+      -- a line of the form whose entry is not lawful
+      pub not-lawful : (x : Fault) → making-fault n v ≡ Some x → (x ≡ BadForm) × ((f : Entry) (rest : List ℕ) → drop at t ≡ entry-line f ++ rest → ⊥)
+      not-lawful x told = (
         why (lawful n v) told,
-        λ f g.
-            let o = entry-only f g in
+        λ f rest g.
+            let o = entry-only f rest g in
             unlawful (lawful n v) told (sym (λ i. lawful (o .0 i) (o .1 i)) ∙ f .lawful),
       )
         where
@@ -131,3 +128,31 @@ module _ (t : List ℕ) where
           unlawful : (b : Bool) → cond b None (Some BadForm) ≡ Some x → b ≡ true → ⊥
           unlawful true e t = let z : _≡_ {A = ℕ} 0 1 = cc in omega arith
           unlawful false e t = both-ways false refl t
+
+      -- and one whose entry is
+      pub read-entry : (e : Entry) → e .number ≡ n → e .event ≡ v → ReadsEntry t at (Ok (e, to))
+      read-entry e p q =
+          let is : drop at t ≡ entry-line e ++ drop to t
+          = number .is ∙ ap (λ x. num n ++ 44 ∷ x) (event .is) ∙ (λ i. num (sym p i) ++ 44 ∷ (event-text (sym q i) ++ 10 ∷ drop to t)) ∙ sym (line-rest e (drop to t)) in
+          let long = ap length (is ∙ line-rest e (drop to t)) ∙ length-append (num (e .number)) (44 ∷ (event-text (e .event) ++ 10 ∷ drop to t)) in
+          let more = length-append (event-text (e .event)) (10 ∷ drop to t) in (
+            omega (arith, long, more, length-drop at t, length-drop to t, event .within),
+            event .within,
+            is,
+            λ f rest g.
+                let o = entry-only f rest g in (entry-same f e (o .0 ∙ sym p) (o .1 ∙ sym q), o .2),
+          )
+
+-- a whole text: the line that begins it ends it
+pub whole-line : (t : List ℕ) (e : Entry) (to : ℕ) → length t ≤ to → ReadsEntry t 0 (Ok (e, to)) → (t ≡ entry-line e) × ((f : Entry) → t ≡ entry-line f → f ≡ e)
+whole-line t e to h told = (
+  told .2 ∙ ap (λ x. entry-line e ++ x) (drop-all to t h) ∙ append-nil (entry-line e),
+  λ f g. told .3 f [] (g ∙ sym (append-nil (entry-line f))) .0,
+)
+
+-- and a longer text is no line
+pub not-whole : (t : List ℕ) (e : Entry) (to : ℕ) → to < length t → ReadsEntry t 0 (Ok (e, to)) → (f : Entry) → t ≡ entry-line f → ⊥
+not-whole t e to h told f g = let o = told .3 f [] (g ∙ sym (append-nil (entry-line f))) in omega (arith, ap length (o .1), length-drop to t)
+
+pub no-whole : (t : List ℕ) → ((f : Entry) (rest : List ℕ) → t ≡ entry-line f ++ rest → ⊥) → (f : Entry) → t ≡ entry-line f → ⊥
+no-whole t none f g = none f [] (g ∙ sym (append-nil (entry-line f)))

@@ -1,8 +1,8 @@
 -- The one line of an entry.
 use mathlib.Core.Path.{_≡_}
-use mathlib.Core.List.{List}
-use Prim.Native.Nat.{ℕ, _≤_}
-use lib.ListN.{length}
+use mathlib.Core.List.{List, _++_}
+use Prim.Native.Nat.{ℕ, _<_, _≤_}
+use lib.ListN.{length, drop}
 use Rattle.std.specs.declared.result.Result.{Result}
 use Rattle.std.specs.declared.result.Result.the-variants.{Ok, Err}
 use Rattle.pauli.specs.declared.fault.Fault.{Fault}
@@ -13,10 +13,12 @@ use Rattle.journal_lines.specs.Lines.{line}
 abbrev pub entry-line : Entry → List ℕ
 entry-line e = line (e .number) (e .event)
 
--- the entry whose line a text is, and it is no other's; or the text is no entry's line
-abbrev pub ReadsLine : List ℕ → Result Entry Fault → Type 0
-ReadsLine t (Ok e) = (t ≡ entry-line e) × ((f : Entry) → t ≡ entry-line f → f ≡ e)
-ReadsLine t (Err x) = (x ≡ BadForm) × ((f : Entry) → t ≡ entry-line f → ⊥)
+-- a reader at a place of a text answers the entry whose line begins there and the place after it, and it is no other's; or no entry's line begins there
+abbrev pub ReadsEntry : List ℕ → ℕ → Result (Entry × ℕ) Fault → Type 0
+ReadsEntry t at (Ok p) =
+    (at < p .1) × (p .1 ≤ length t) × (drop at t ≡ entry-line (p .0) ++ drop (p .1) t)
+    × ((f : Entry) (rest : List ℕ) → drop at t ≡ entry-line f ++ rest → (f ≡ p .0) × (rest ≡ drop (p .1) t))
+ReadsEntry t at (Err x) = (x ≡ BadForm) × ((f : Entry) (rest : List ℕ) → drop at t ≡ entry-line f ++ rest → ⊥)
 
 -- n bytes have room for every line, and one line fills them
 pub record Longest (n : ℕ) : Type 0 where

@@ -6,7 +6,7 @@ ghost use Rattle.std.specs.Vec.{made, refused};
 ghost use Rattle.std.specs.declared.result.Result.the-variants.{Ok};
 ghost use Rattle.text.specs.Lines.{Filled};
 ghost use Rattle.journal_lines.specs.Lines.{done-mark as doneMark};
-ghost use Rattle.journal_lines.specs.Entries.{entry-line as entryLine, ReadsLine, Longest};
+ghost use Rattle.journal_lines.specs.Entries.{entry-line as entryLine, ReadsEntry, Longest};
 use crate::entry::Entry;
 use crate::event::Event;
 use crate::parts;
@@ -25,18 +25,6 @@ fn done_mark(done: bool) -> u8
     ensures { λ r. ⌜ r ≡ doneMark done ⌝ }
 {
     if done { b'D' } else { b'P' }
-}
-
-// The entry whose line a text is.
-fn whole(text: &[u8]) -> Result<Entry, Fault>
-    ensures { λ r. ⌜ ReadsLine (now (text .entry)) r ⌝ }
-{
-    let (number, at) = read::number(text, 0, End::Comma)?;
-    let (event, to) = parts::event(text, at)?;
-    if to < text.len() {
-        return Err(Fault::BadForm);
-    }
-    Entry::new(number, event)
 }
 
 impl Entry {
@@ -87,13 +75,27 @@ impl Entry {
         }
     }
 
+    // The entry whose line begins at a place of a text, and the place after the line.
+    pub fn read_at(text: &[u8], at: usize) -> Result<(Entry, usize), Fault>
+        ensures { λ r. ⌜ ReadsEntry (now (text .entry)) at r ⌝ }
+    {
+        let (number, from) = read::number(text, at, End::Comma)?;
+        let (event, to) = parts::event(text, from)?;
+        let entry = Entry::new(number, event)?;
+        Ok((entry, to))
+    }
+
     // The entry whose line a text is. Every text that is no lawful entry's line is refused.
     pub fn read_line(text: &[u8]) -> Result<Entry, Fault>
         ensures line { λ r. ⌜ made r (λ e. now (text .entry) ≡ entryLine e) ⌝ }
         ensures back { λ r. ⌜ ((e : Entry) → now (text .entry) ≡ entryLine e → r ≡ Ok e) ⌝ }
         ensures fault { λ r. ⌜ refused r (λ f. f ≡ Fault.BadForm) ⌝ }
     {
-        whole(text)
+        let (entry, to) = Entry::read_at(text, 0)?;
+        if to < text.len() {
+            return Err(Fault::BadForm);
+        }
+        Ok(entry)
     }
 }
 

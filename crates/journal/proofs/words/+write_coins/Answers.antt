@@ -15,4 +15,4 @@ returns g t c = λ plain ok.
     put-is took (c .args .f .now) (c .digit-name .result .now ++ rest) (coins (c .args .count) (c .args .word)) (c .write-coins .last .f)
     (ap (λ l. l ++ rest) (c .digit-name .ensures) ∙ ap (λ b. (48 + b) ∷ rest) (low-bit (c .args .word)) ∙ sym (coins-step (c .args .count) (c .args .word) (omega arith)))
     (prints-then took (c .args .f .now) (c .write-str .last .self) (c .write-coins .last .f) (c .write-str .result) (c .write-coins .result) (c .digit-name .result .now) rest
-    (λ o. went-well (c .in-Continue-write-str .was tt)) (c .write-str .ensures .prints) (c .write-coins .ensures) plain ok)
+    (λ o. went-well (c .write-str .result) (c .in-Continue-write-str .field-0) (c .in-Continue-write-str .was tt)) (c .write-str .ensures .prints) (c .write-coins .ensures) plain ok)

@@ -15,4 +15,4 @@ returns g t c = λ plain ok.
     put-is took (c .args .f .now) (c .letter-name .result .now ++ rest) (letters (c .args .size) (c .args .x) (c .args .z)) (c .write-letters .last .f)
     (ap (λ l. l ++ rest) (c .letter-name .ensures) ∙ sym (letters-step (c .args .size) (c .args .x) (c .args .z) (omega arith)))
     (prints-then took (c .args .f .now) (c .write-str .last .self) (c .write-letters .last .f) (c .write-str .result) (c .write-letters .result) (c .letter-name .result .now) rest
-    (λ o. went-well (c .in-Continue-write-str .was tt)) (c .write-str .ensures .prints) (c .write-letters .ensures) plain ok)
+    (λ o. went-well (c .write-str .result) (c .in-Continue-write-str .field-0) (c .in-Continue-write-str .was tt)) (c .write-str .ensures .prints) (c .write-letters .ensures) plain ok)
