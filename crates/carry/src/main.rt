@@ -1,4 +1,6 @@
 // Carries the row that standard input names through the gates that follow it, and prints the row after each.
+#![tactic(auto)]
+
 use carrying::carry::carry;
 use carrying::report::Ending;
 use carrying::rows::row_line;

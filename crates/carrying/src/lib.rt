@@ -1,4 +1,6 @@
 // Carries one row through the gates of a text.
+#![tactic(auto)]
+
 pub mod carry;
 pub mod report;
 pub mod rows;

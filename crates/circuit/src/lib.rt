@@ -1,3 +1,5 @@
 // Circuits, run line by line.
+#![tactic(auto)]
+
 pub mod play;
 pub mod stop;

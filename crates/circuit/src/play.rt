@@ -18,7 +18,7 @@ fn perform<P: PhasePoint, S: CoinSource>(
     session: &mut Session<P, S>,
     line: Line,
 ) -> Result<(), Fault>
-    ensures done { Performed (seen P.ValueSheet.sheet coins session.old) (said line.entry) result (seen P.ValueSheet.sheet coins session.new) }
+    ensures done { Performed (seen P.ValueSheet.sheet S.coins session.old) (said line.entry) result (seen P.ValueSheet.sheet S.coins session.new) }
     ensures kept { is_err result ≡ true → session.new ≡ session.old }
 {
     match line {
@@ -46,7 +46,7 @@ fn step<P: PhasePoint, S: CoinSource>(
     line: usize,
 ) -> Result<bool, Stop>
     ensures text { reader.new.text ≡ reader.old.text }
-    ensures done { OneLine (seen P.ValueSheet.sheet coins session.old) line reader.old.text.now reader.old.at result (seen P.ValueSheet.sheet coins session.new) reader.new.at }
+    ensures done { OneLine (seen P.ValueSheet.sheet S.coins session.old) line reader.old.text.now reader.old.at result (seen P.ValueSheet.sheet S.coins session.new) reader.new.at }
 {
     let Some(next) = at(line, reader.next())? else {
         return Ok(false);
@@ -60,7 +60,7 @@ pub fn play<P: PhasePoint, S: CoinSource>(
     session: &mut Session<P, S>,
     reader: &mut Reader,
 ) -> Result<(), Stop>
-    ensures { Played (seen P.ValueSheet.sheet coins session.old) 3 (drop reader.old.at reader.old.text.now) result (seen P.ValueSheet.sheet coins session.new) }
+    ensures { Played (seen P.ValueSheet.sheet S.coins session.old) 3 (drop reader.old.at reader.old.text.now) result (seen P.ValueSheet.sheet S.coins session.new) }
 {
     let mut line = 3;
     while step(session, reader, line)? {

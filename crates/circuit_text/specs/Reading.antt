@@ -16,7 +16,7 @@ abbrev pub Placed : Bor (List ℕ) → ℕ → Line → ℕ → Type 0
 Placed x at (L.Gate g) to = drop (at + 2) x.now ≡ body_of (said (L.Gate g)) ++ 10 ∷ drop to x.now
 Placed x at (L.Measure s l) to =
     (slice_index x.now (at + 2) ≡ sign_byte s) × (drop (at + 4) x.now ≡ l.now ++ 10 ∷ drop to x.now) × (l.ref_ptr.0 ≡ x.ref_ptr.0)
-    × (l.ptr.1 ≡ at + 4 + x.ptr.1)
+    × (l.ref_ptr.1 ≡ at + 4 + x.ref_ptr.1)
 Placed x at (L.Conditional k g q) to = drop (at + 2) x.now ≡ body_of (said (L.Conditional k g q)) ++ 10 ∷ drop to x.now
 
 -- a line of this form stands at the place, or none does

@@ -1,4 +1,6 @@
 // The text of a circuit, read line by line.
+#![tactic(auto)]
+
 pub mod line;
 mod read;
 pub mod reader;

@@ -1,4 +1,6 @@
 // Coin sources: an interface, coins read from a text, and coins made by a shift register.
+#![tactic(auto)]
+
 pub mod register;
 pub mod source;
 #[cfg(test)]

@@ -18,7 +18,7 @@ pub trait CoinSource {
 // The next `count` coins as a word, the first one lowest. Where fewer are left, or a word has no room for them,
 // none is drawn.
 pub fn draw_word<S: CoinSource>(source: &mut S, count: u32) -> Option<u64>
-    ensures drawn { WordDrawn count (coins source.old) result (coins source.new) }
+    ensures drawn { WordDrawn count (S.coins source.old) result (S.coins source.new) }
     ensures kept { result ≡ None → source.new ≡ source.old }
 {
     if count > 64 || source.left() < count as u64 {

@@ -1,4 +1,6 @@
 // Reads journal lines from standard input and prints what they tell in plain words, one line to an entry.
+#![tactic(auto)]
+
 use journal::explain;
 use std::io;
 use std::io::Read;

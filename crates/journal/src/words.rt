@@ -79,7 +79,7 @@ fn letter_name(x: bool, z: bool) -> &'static str
 
 // The letters of the first `size` qubits, one by one.
 fn write_letters<W: fmt::Write>(f: &mut fmt::Formatter<W>, size: u32, x: u64, z: u64) -> fmt::Result
-    ensures { WritesOnOk write_str_gives f.old result (letters_of size x z) f.new }
+    ensures { WritesOnOk W.write_str_gives f.old result (letters_of size x z) f.new }
 {
     if size == 0 {
         return Ok(());
@@ -108,7 +108,7 @@ impl fmt::Display for Digit {
 
 // The first `count` coins, one by one.
 fn write_coins<W: fmt::Write>(f: &mut fmt::Formatter<W>, count: u32, word: u64) -> fmt::Result
-    ensures { WritesOnOk write_str_gives f.old result (coins_of count word) f.new }
+    ensures { WritesOnOk W.write_str_gives f.old result (coins_of count word) f.new }
 {
     if count == 0 {
         return Ok(());
@@ -151,14 +151,14 @@ impl fmt::Display for Coins {
 }
 
 fn write_turn<W: fmt::Write>(f: &mut fmt::Formatter<W>, gate: OneQubit, qubit: u32) -> fmt::Result
-    ensures { WritesOnOk write_str_gives f.old result (turn_words gate qubit) f.new }
+    ensures { WritesOnOk W.write_str_gives f.old result (turn_words gate qubit) f.new }
 {
     let name = Name(gate);
     write!(f, "the gate {name} acted on qubit {qubit}.")
 }
 
 fn write_cross<W: fmt::Write>(f: &mut fmt::Formatter<W>, control: u32, target: u32) -> fmt::Result
-    ensures { WritesOnOk write_str_gives f.old result (cross_words control target) f.new }
+    ensures { WritesOnOk W.write_str_gives f.old result (cross_words control target) f.new }
 {
     write!(
         f,
@@ -172,7 +172,7 @@ fn write_done<W: fmt::Write>(
     gate: OneQubit,
     qubit: u32,
 ) -> fmt::Result
-    ensures { WritesOnOk write_str_gives f.old result (done_words outcome gate qubit) f.new }
+    ensures { WritesOnOk W.write_str_gives f.old result (done_words outcome gate qubit) f.new }
 {
     let name = Name(gate);
     write!(
@@ -187,7 +187,7 @@ fn write_passed<W: fmt::Write>(
     gate: OneQubit,
     qubit: u32,
 ) -> fmt::Result
-    ensures { WritesOnOk write_str_gives f.old result (passed_words outcome gate qubit) f.new }
+    ensures { WritesOnOk W.write_str_gives f.old result (passed_words outcome gate qubit) f.new }
 {
     let name = Name(gate);
     write!(
@@ -197,7 +197,7 @@ fn write_passed<W: fmt::Write>(
 }
 
 fn write_measured<W: fmt::Write>(f: &mut fmt::Formatter<W>, m: &Measurement) -> fmt::Result
-    ensures { WritesOnOk write_str_gives f.old result (measured_words m.now) f.new }
+    ensures { WritesOnOk W.write_str_gives f.old result (measured_words m.now) f.new }
 {
     let sign = Sign(m.sign);
     let letters = Letters {

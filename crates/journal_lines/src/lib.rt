@@ -1,4 +1,6 @@
 // The entries of a journal, and each entry's one line of text, written and read.
+#![tactic(auto)]
+
 pub mod entry;
 pub mod event;
 pub mod lines;

@@ -1,4 +1,6 @@
 // Pauli labels and rows, the sign rule and the Clifford gates; and the closed list of refusals of the whole instrument.
+#![tactic(auto)]
+
 pub mod case;
 pub mod fault;
 pub mod gate;

@@ -1,5 +1,7 @@
 // Plays a list of calls on one qubit of width 1 with four coins, and prints each answer; a line that is read stands as it is.
 // Then it fills the journal with gates.
+#![tactic(auto)]
+
 use coins::text::TextCoins;
 use pauli::gate::{Gate, OneQubit};
 use pauli::label::Label;

@@ -1,4 +1,6 @@
 // Plays a circuit to a tableau and shows the journal, then the rows of the tableau, then how the circuit ended.
+#![tactic(auto)]
+
 use circuit::play::play;
 use circuit_text::reader::Reader;
 use coins::text::TextCoins;

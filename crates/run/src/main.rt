@@ -1,4 +1,6 @@
 // Reads a circuit from standard input and prints the lines of its journal, and last how it ended.
+#![tactic(auto)]
+
 use circuit_run::output;
 use std::io;
 use std::io::{Read, Write};

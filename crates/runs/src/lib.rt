@@ -1,4 +1,6 @@
 // Runs of a session: its calls and answers, what each call does, and the promises about every run.
+#![tactic(auto)]
+
 pub mod answer;
 pub mod call;
 pub mod promises;

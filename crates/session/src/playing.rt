@@ -20,10 +20,10 @@ pub fn play<P: PhasePoint, S: CoinSource>(
     calls: &[Call],
     answers: &mut [Answer],
 ) -> Session<P, S>
-    ensures played { Played (state (P.ValueSheet.sheet point) (coins source) [])
+    ensures played { Played (state (P.ValueSheet.sheet point) (S.coins source) [])
         (take (made calls.now answers.old) calls.now)
         (take (made calls.now answers.old) answers.new)
-        (seen P.ValueSheet.sheet coins result) }
+        (seen P.ValueSheet.sheet S.coins result) }
     ensures rest { drop (made calls.now answers.old) answers.new
         ≡ drop (made calls.now answers.old) answers.old }
 {

@@ -48,7 +48,7 @@ impl<P: PhasePoint, S: CoinSource> Session<P, S> {
 
     // A session over a point and a source in any state, with an empty journal.
     pub fn open(point: P, source: S) -> Session<P, S>
-        ensures seen { seen P.ValueSheet.sheet coins result ≡ state (P.ValueSheet.sheet point) (coins source) [] }
+        ensures seen { seen P.ValueSheet.sheet S.coins result ≡ state (P.ValueSheet.sheet point) (S.coins source) [] }
         ensures own { (result.point ≡ point) × (result.source ≡ source) }
     {
         Session {
@@ -83,7 +83,7 @@ impl<P: PhasePoint, S: CoinSource> Session<P, S> {
     }
 
     pub fn gate(&mut self, gate: Gate) -> Result<(), Fault>
-        ensures step { GateStep (seen P.ValueSheet.sheet coins self.old) gate result (seen P.ValueSheet.sheet coins self.new) }
+        ensures step { GateStep (seen P.ValueSheet.sheet S.coins self.old) gate result (seen P.ValueSheet.sheet S.coins self.new) }
         ensures kept { is_err result ≡ true → self.new ≡ self.old }
     {
         self.check(gate)?;
@@ -102,7 +102,7 @@ impl<P: PhasePoint, S: CoinSource> Session<P, S> {
         gate: OneQubit,
         qubit: u32,
     ) -> Result<Conditional, Fault>
-        ensures step { ConditionalStep (seen P.ValueSheet.sheet coins self.old) outcome gate qubit result (seen P.ValueSheet.sheet coins self.new) }
+        ensures step { ConditionalStep (seen P.ValueSheet.sheet S.coins self.old) outcome gate qubit result (seen P.ValueSheet.sheet S.coins self.new) }
         ensures kept { is_err result ≡ true → self.new ≡ self.old }
     {
         let turn = Gate::One { gate, qubit };
@@ -129,7 +129,7 @@ impl<P: PhasePoint, S: CoinSource> Session<P, S> {
 
     // Looks at a label, draws exactly the coins that it needs, and measures it with a sign.
     pub fn measure(&mut self, label: Label, sign: bool) -> Result<bool, Fault>
-        ensures step { MeasureStep (seen P.ValueSheet.sheet coins self.old) label sign result (seen P.ValueSheet.sheet coins self.new) }
+        ensures step { MeasureStep (seen P.ValueSheet.sheet S.coins self.old) label sign result (seen P.ValueSheet.sheet S.coins self.new) }
         ensures kept { is_err result ≡ true → self.new ≡ self.old }
     {
         let (case, count) = self.point.look(label)?;
@@ -181,7 +181,7 @@ impl<P: PhasePoint, S: CoinSource> Session<P, S> {
 
     // How many coins are still to come.
     pub fn coins_left(&self) -> u64
-        ensures { result ≡ length (coins self.now.source) }
+        ensures { result ≡ length (S.coins self.now.source) }
     {
         self.source.left()
     }
@@ -212,7 +212,7 @@ impl<P: PhasePoint, S: CoinSource> Session<P, S> {
 
     // Makes any call.
     pub fn call(&mut self, call: Call) -> Answer
-        ensures step { Step (seen P.ValueSheet.sheet coins self.old) call result (seen P.ValueSheet.sheet coins self.new) }
+        ensures step { Step (seen P.ValueSheet.sheet S.coins self.old) call result (seen P.ValueSheet.sheet S.coins self.new) }
         ensures kept { (e : Fault) → result ≡ Refused e → self.new ≡ self.old }
     {
         match call {

@@ -1,4 +1,6 @@
 // The laws of value sheets. Nothing here computes: each function is a theorem, and its contract is the statement.
+#![tactic(auto)]
+
 ghost use Rattle.std.specs.Prelude.{◌≡◌, ℕ, ◌<◌, ◌≤◌, Bool, ◌&&◌};
 ghost use Rattle.pauli.specs.declared.case.Case.TheVariants.{Three};
 ghost use Rattle.pauli.specs.declared.label.Label.{Label};

@@ -1,6 +1,6 @@
 -- How many places pass a test, and which is the n-th of them.
 use Rattle.std.proofs.Common.{◌≡◌, ℕ, zero, suc, ◌+◌, ◌<◌, ◌≤◌, Bool, true, false, cond, not, ◌&&◌, eqb, List, length, get_or, set, sym, refl, ap, ◌∙◌, ap₂, add-one, arith, get_or-set_other, get_or-set_same, below_more, ne_eqb, eqb-true}
-use borrow.Author.Tests.{eqb_false}
+use borrow.Author.Tests.{eqb-false}
 use Rattle.pauli_laws.specs.Words.{num}
 use Rattle.tableau_laws.specs.Places.{count, nth, all_below}
 use Rattle.tableau_laws.proofs.Places.{nth_at, nth_here}
@@ -64,7 +64,7 @@ all_not t (suc n) i h e = go (eqb i n) refl (λ lt. all_not t n i lt e)
   where
     go : (b : Bool) → eqb i n ≡ b → (i < n → all_below n t ≡ false) → (all_below n t && t n) ≡ false
     go true same before = ap (λ (p : Bool). all_below n t && p) (ap t (sym (eqb-true i n same)) ∙ e) ∙ and_false (all_below n t)
-    go false other before = let o : i ≡ n → ⊥ = eqb_false i n other in ap (λ (p : Bool). p && t n) (before (omega arith))
+    go false other before = let o : i ≡ n → ⊥ = eqb-false i n other in ap (λ (p : Bool). p && t n) (before (omega arith))
 
 -- a list that has what f says at one place more
 pub put_more : {A : Type 0} (d : A) (f : ℕ → A) (xs : List A) (i : ℕ) (v : A) → i < length xs → v ≡ f i → ((k : ℕ) → k < i → get_or xs k d ≡ f k)

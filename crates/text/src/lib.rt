@@ -1,4 +1,6 @@
 // The fields of comma-separated lines: read exactly, one at a time, and written whole lines at a time.
+#![tactic(auto)]
+
 pub mod end;
 pub mod read;
 #[cfg(test)]

@@ -1,4 +1,6 @@
 // Runs every circuit of the examples and compares what is printed with what is expected.
+#![tactic(auto)]
+
 use circuit_run::output;
 use std::io::Write;
 use std::{fs, io};

@@ -1,4 +1,6 @@
 // The worked examples, together: facts of the definitions that the contracts of the instrument use.
+#![tactic(auto)]
+
 ghost use Rattle.worked.specs.Facts.{LettersAreRead, ProductOfXXAndZZ, HOnY, CXOnXZ, OpeningRows, LawfulSheet, FourMeasurements, RowsAfterThird, WholeLabel, RowsAfterZX};
 
 pub fn worked_facts()

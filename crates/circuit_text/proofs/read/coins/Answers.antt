@@ -8,5 +8,5 @@ returns c =
     let h = c.in_ok-coins.ensures in (
       coins_hit _ _ _ _ kind c.if-kind-ne66.false _ _ c.if-coins-gt-MOST_COINS.false h.0,
       h.1,
-      h.2 ∙ ap (λ (i : ℕ). i + c.args.text.ptr.1) (body_at _ _ _ _ kind),
+      h.2 ∙ ap (λ (i : ℕ). i + c.args.text.ref_ptr.1) (body_at _ _ _ _ kind),
     )

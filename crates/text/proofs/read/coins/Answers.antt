@@ -13,8 +13,8 @@ returns-then-peek-byte c = (
       (λ feed law. c.if-peek-byte.true (c.peek.ensures ∙ feed ∙ sym c.byte.ensures)),
 )
 
-pub slice-bounds-result-end : goal.slice-bounds-result-end
-slice-bounds-result-end c = let inside = present c.args.t.now c.run_end-to.result (omega (arith, end_some c.args.end)) in omega arith
+pub slice_bounds-result-end : goal.slice_bounds-result-end
+slice_bounds-result-end c = let inside = present c.args.t.now c.run_end-to.result (omega (arith, end_some c.args.end)) in omega arith
 
 pub overflow_add-result : goal.overflow_add-result
 overflow_add-result c = let inside = present c.args.t.now c.run_end-to.result (omega (arith, end_some c.args.end)) in omega arith

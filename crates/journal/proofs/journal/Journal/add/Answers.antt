@@ -5,8 +5,8 @@ use Rattle.journal_lines.specs.Lawful.{sound}
 use Rattle.journal.proofs.Kept.{length_events, added, added_lawful, not_refused}
 use Rattle.journal.proofs.journal.Journal.add.Goals as goal
 
-pub invariant-of-self : goal.invariant-of-self
-invariant-of-self c =
+pub invariant_of-self : goal.invariant_of-self
+invariant_of-self c =
     let j = c.args.self.now in
     let e = c.args.event in
     let n = length_events j in

@@ -4,20 +4,20 @@ use Rattle.pauli.specs.declared.fault.Fault.TheVariants.{NoOutcome}
 use Rattle.journal.specs.Journals.{events, outcomes, answer, kth}
 use Rattle.journal.proofs.Kept.{from_first, with_outcome, without_outcome, no_more, step_over}
 use Rattle.journal.proofs.journal.Journal.outcome.Goals as goal
-use Rattle.journal.proofs.journal.Journal.outcome.Goals.{in_Some+else_left_eq0, in-default}
+use Rattle.journal.proofs.journal.Journal.outcome.Goals.{in-Some+else-left-eq0, in_default}
 
 pub loop-i-preserved : goal.loop-i-preserved
 loop-i-preserved c =
     let j = c.args.self.now in
     let i = c.loop-i.i in
     elim c.match-outcome_of.branch [
-      | in_Some+else_left_eq0 w ↦
+      | in-Some+else-left-eq0 w ↦
           let h : 0 < c.loop-i.left = omega (arith, w.if-left-eq0.false) in
           ap (slice_get (outcomes (drop (i + 1) (events j)))) w.left-is ∙ sym (step_over w.in-Some.outcome _ c.loop-i.left h)
           ∙ sym (ap (λ l. slice_get l c.loop-i.left) (with_outcome j i _ _ c.loop-i-test.true c.outcome_of.ensures _ w.in-Some.is)) ∙ c.loop-i.invariant
-      | in-default w ↦
+      | in_default w ↦
           ap (slice_get (outcomes (drop (i + 1) (events j)))) w.left-is
-          ∙ sym (ap (λ l. slice_get l c.loop-i.left) (without_outcome j i _ _ c.loop-i-test.true c.outcome_of.ensures w.in-default.is)) ∙ c.loop-i.invariant
+          ∙ sym (ap (λ l. slice_get l c.loop-i.left) (without_outcome j i _ _ c.loop-i-test.true c.outcome_of.ensures w.in_default.is)) ∙ c.loop-i.invariant
     ]
 
 pub returns-then-left-eq0 : goal.returns-then-left-eq0

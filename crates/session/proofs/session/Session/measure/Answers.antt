@@ -9,16 +9,16 @@ use Rattle.session.specs.Seen.{seen}
 use Rattle.session.proofs.Lawful.{allowed, too_few, as_looked, measured_right}
 use Rattle.session.proofs.session.Session.measure.Goals as goal
 
-pub returns-in-default : goal.returns-in-default
-returns-in-default g c =
+pub returns-in_default : goal.returns-in_default
+returns-in_default g c =
     let me = c.args.self.now in
     let L = g.met.P.ValueSheet.lawful me.point in
     let look = c.in_ok-case.ensures in
     let room : length (events me.journal) < 512 = search rules in
-    let same = c.draw_word.ensures.kept c.in-default.is in
+    let same = c.draw_word.ensures.kept c.in_default.is in
     record {
       step = (
-        (inr (allowed (fits (g.P.ValueSheet.sheet me.point).n c.args.label) (length (events me.journal)) look.0 room, (c.in_ok-case.case, c.in_ok-case.count, look.1, too_few (g.P.ValueSheet.sheet me.point) L c.args.label c.in_ok-case.case c.in_ok-case.count (length (g.S.CoinSource.coins me.source)) look.1 c.in-default.ensures.drawn.0), refl)),
+        (inr (allowed (fits (g.P.ValueSheet.sheet me.point).n c.args.label) (length (events me.journal)) look.0 room, (c.in_ok-case.case, c.in_ok-case.count, look.1, too_few (g.P.ValueSheet.sheet me.point) L c.args.label c.in_ok-case.case c.in_ok-case.count (length (g.S.CoinSource.coins me.source)) look.1 c.in_default.ensures.drawn.0), refl)),
         ap (λ src. seen g.P.ValueSheet.sheet g.S.CoinSource.coins (record { point = me.point; source = src; journal = me.journal })) same,
       );
       kept = λ _. ap (λ src. record { point = me.point; source = src; journal = me.journal }) same;

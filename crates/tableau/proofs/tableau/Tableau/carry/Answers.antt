@@ -3,8 +3,8 @@ use Rattle.pauli.specs.Gates.{gate_fault}
 use Rattle.tableau.specs.Kept.{gate_kept, placed_is}
 use Rattle.tableau.proofs.tableau.Tableau.carry.Goals as goal
 
-pub invariant-of-self : goal.invariant-of-self
-invariant-of-self c =
+pub invariant_of-self : goal.invariant_of-self
+invariant_of-self c =
     let s = c.args.self.now.rows in
     let g = c.in_ok-placed.placed.gate in
     let h = c.in_ok-placed.ensures in

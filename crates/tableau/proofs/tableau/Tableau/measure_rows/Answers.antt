@@ -6,8 +6,8 @@ use Rattle.tableau_rows.specs.Held.{J_of}
 use Rattle.tableau.specs.Kept.{measure_kept, even}
 use Rattle.tableau.proofs.tableau.Tableau.measure_rows.Goals as goal
 
-pub invariant-of-self : goal.invariant-of-self
-invariant-of-self c =
+pub invariant_of-self : goal.invariant_of-self
+invariant_of-self c =
     let s = c.args.self.now.rows in
     let b = c.args.b in
     let p = c.args.self.now.pattern in
