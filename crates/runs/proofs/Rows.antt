@@ -79,10 +79,10 @@ effect_told s b sign coin Four k o v t e i h = not_both h i.0
 -- the coins needed against the fall of the width
 pub effect_width : (s : Sheet) (b : Label) (sign coin : Bool) (c : Case) (k : ℕ) (o : Bool) (t : Sheet) → Effect s b sign coin c k o t → Needs s b c k
     → (t.width ≤ s.width) × (k + t.width ≡ twos (c ∷ []) + fours (c ∷ []) + s.width)
-effect_width s b sign coin One k o t e n = let w = e.1.same_width_lem in (omega arith, omega arith)
-effect_width s b sign coin Two k o t e n = let w = e.1.same_width_lem in (omega arith, omega arith)
+effect_width s b sign coin One k o t e n = let w = e.1.same_width in (omega arith, omega arith)
+effect_width s b sign coin Two k o t e n = let w = e.1.same_width in (omega arith, omega arith)
 effect_width s b sign coin Three k o t e n = let w = e.1.narrower in (omega arith, omega arith)
-effect_width s b sign coin Four k o t e n = let w = e.1.same_width_lem in (omega arith, omega arith)
+effect_width s b sign coin Four k o t e n = let w = e.1.same_width in (omega arith, omega arith)
 
 -- ---- the rows after a measurement
 

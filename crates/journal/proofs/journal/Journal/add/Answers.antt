@@ -12,7 +12,7 @@ invariant_of-self c =
     let n = length_events j in
     let low : length (events j) < 512 = leb-false 512 (length (events j)) (sym c.if-is_full.ensures) in
     let ok : sound (j.len + 1) e ≡ true = subst (λ k. sound (k + 1) e ≡ true) (c.len.ensures ∙ n) (sym c.if-not-is_sound.ensures) in
-    (omega arith, (length-set j.slots j.len e ∙ j.whole, (added_lawful j e (omega arith) ok, tt)))
+    record { room = omega arith; whole = length-set j.slots j.len e ∙ j.whole; lawful = added_lawful j e (omega arith) ok }
 
 pub returns : goal.returns
 returns c =

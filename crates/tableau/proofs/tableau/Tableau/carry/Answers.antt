@@ -9,4 +9,4 @@ invariant_of-self c =
     let g = c.in_ok-placed.placed.gate in
     let h = c.in_ok-placed.ensures in
     let ok : gate_fault s.size g ≡ None = ap₂ gate_fault (sym c.size.ensures) h.1 ∙ placed_is c.size.result c.args.gate h.0 in
-    (gate_kept s c.gate.new.self g c.args.self.now.pattern ok c.gate.ensures.size c.gate.ensures.rows, tt)
+    record { pattern = gate_kept s c.gate.new.self g c.args.self.now.pattern ok c.gate.ensures.size c.gate.ensures.rows }

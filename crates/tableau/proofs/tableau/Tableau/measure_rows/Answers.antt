@@ -13,7 +13,7 @@ invariant_of-self c =
     let p = c.args.self.now.pattern in
     let fit : fits s.size b ≡ true = ap (λ (n : ℕ). fits n b) (sym c.size.ensures) ∙ sym c.if-not-fits.ensures in
     let rows = c.measure.ensures.rows (jw_count s.width (J_of s) b / 2) (even s b p) in
-    (measure_kept s c.measure.new.self b c.args.sign c.args.coins p fit c.measure.ensures.size rows, tt)
+    record { pattern = measure_kept s c.measure.new.self b c.args.sign c.args.coins p fit c.measure.ensures.size rows }
 
 pub returns : goal.returns
 returns c =
