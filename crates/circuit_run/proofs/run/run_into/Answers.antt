@@ -56,8 +56,8 @@ returns-in_err-played c =
     b.0 b.1.0 b.1.1 c.open.ensures.text c.in_ok-point.ensures.line c.in_ok-source.ensures.line c.open-session.ensures.seen in
     let p = played_of c.args.text c.supply.new.reader.text _ _ _ _ (c.supply.ensures.text ∙ c.open.ensures.text ∙ b.1.0) c.play-played.ensures in
     let e = c.in_err-played.field-0.0 in
-    goes_up (λ r. Ran c.args.text.now (events c.close.result.2) r) _ e c.from_residual-in_err-played.ensures.1
-    (ends _ _ _ S _ _ p (events c.close.result.2) (Err e) (sym c.in_err-played.was) (ap events c.close.ensures.2) tt)
+    goes_up (λ r. Ran c.args.text.now (events c.into_parts.result.2) r) _ e c.from_residual-in_err-played.ensures.1
+    (ends _ _ _ S _ _ p (events c.into_parts.result.2) (Err e) (sym c.in_err-played.was) (ap events c.into_parts.ensures.2) tt)
 
 pub returns : goal.returns
 returns c =
@@ -67,5 +67,5 @@ returns c =
     let p = played_of c.args.text c.supply.new.reader.text _ _ _ _ (c.supply.ensures.text ∙ c.open.ensures.text ∙ b.1.0) c.play-played.ensures in
     let spends : c.left-coins.result - c.coins_left.result ≡ length (spent (readings (events c.play-played.new.session.journal)))
     = omega (arith, coins_kept _ _ _ S _ _ p, ap (λ (s : State). length s.coins) c.open-session.ensures.seen, c.left-coins.ensures, c.coins_left.ensures) in
-    ends _ _ _ S _ _ p (events c.close.result.2) (Ok (record { entries = c.entries.result; coins = c.left-coins.result - c.coins_left.result; width = c.width.result }))
-    (sym c.in_ok-played.was) (ap events c.close.ensures.2) (c.entries.ensures, spends, c.width.ensures)
+    ends _ _ _ S _ _ p (events c.into_parts.result.2) (Ok (record { entries = c.entries.result; coins = c.left-coins.result - c.coins_left.result; width = c.width.result }))
+    (sym c.in_ok-played.was) (ap events c.into_parts.ensures.2) (c.entries.ensures, spends, c.width.ensures)
