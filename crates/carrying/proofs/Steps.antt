@@ -1,5 +1,5 @@
 -- How the lines of a text chain up.
-use Rattle.std.proofs.Common.{◌≡◌, ℕ, zero, suc, ◌+◌, ◌<◌, ◌≤◌, Bool, true, false, cond, ◌&&◌, eqb, leb, ◌≢◌, ◌⊎◌, List, [], ◌∷◌, ◌++◌, length, get_or, drop, IsErrAnd, IfOk, Some, None, Ok, Err, Option, Result, sym, refl, ap, ◌∙◌, subst, ap₂, inl, inr, append_assoc, append-nil, arith, length-append, length-drop, eq-eqb, le-leb}
+use Rattle.std.proofs.Common.{◌≡◌, ℕ, suc, ◌+◌, ◌<◌, ◌≤◌, Bool, true, cond, ◌&&◌, eqb, leb, ◌≢◌, ◌⊎◌, List, [], ◌∷◌, ◌++◌, length, get_or, drop, IsErrAnd, IfOk, Some, None, Ok, Err, Option, Result, sym, refl, ap, ◌∙◌, subst, ap₂, inl, inr, append_assoc, append-nil, arith, length-append, length-drop, eq-eqb, le-leb}
 use Rattle.std.proofs.lemmas.Bool.{and_from}
 use Rattle.std.proofs.lemmas.List.{drop_all}
 use Rattle.pauli.specs.declared.fault.Fault.{Fault}
@@ -7,7 +7,7 @@ use Rattle.pauli.specs.declared.fault.Fault.TheVariants.{BadForm, TextEnded, Bad
 use Rattle.pauli.specs.declared.gate.Gate.{Gate}
 use Rattle.pauli.specs.declared.label.Label.{Label}
 use Rattle.pauli.specs.declared.row.Row.{Row}
-use Rattle.pauli.specs.Gates.{carry, gate_fault, placing_fault}
+use Rattle.pauli.specs.Gates.{gate_fault, placing_fault}
 use Rattle.pauli.specs.Labels.{Within, label_text, size_ok, reading_fault}
 use Rattle.pauli.specs.Letters.{is_letter, all_letters}
 use Rattle.text.proofs.Places.{goes_up}
@@ -16,7 +16,7 @@ use Rattle.text.specs.Reading.{Hit, Miss}
 use Rattle.text.specs.Texts.{sign_text, sign_byte, gate_text, Gated, Letters, same, Any}
 use Rattle.carrying.specs.declared.report.Ending.{Ending}
 use Rattle.carrying.specs.declared.report.Ending.TheVariants.{Done, Refused}
-use Rattle.carrying.specs.Carrying.{first_line, row_line, gate_line, NoRow, NoGate, Gates, end, next, not_a_gate, refused, Carried, too_long, empty, not_a_row, too_many, row}
+use Rattle.carrying.specs.Carrying.{first_line, gate_line, NoRow, NoGate, Gates, end, next, not_a_gate, refused, Carried, empty, not_a_row, too_many, row}
 use Rattle.carrying.specs.Lines.{gate_mark, WideRow, RowRead, GateTaken, GateRefused, Steps}
 
 -- ---- the first line

@@ -1,5 +1,5 @@
 -- How the lines of a circuit chain up.
-use Rattle.std.proofs.Common.{◌≡◌, ℕ, ◌+◌, ◌<◌, ◌≤◌, Bool, true, false, ◌≢◌, ◌⊎◌, List, [], ◌∷◌, ◌++◌, length, drop, IsErrAnd, Some, None, Ok, Err, Option, Result, sym, refl, ap, ◌∙◌, subst, inl, inr, append_assoc, arith, length-append, length-drop, Bor, MatchResult}
+use Rattle.std.proofs.Common.{◌≡◌, ℕ, ◌+◌, ◌<◌, ◌≤◌, Bool, true, false, ◌≢◌, List, [], ◌∷◌, length, drop, IsErrAnd, Some, None, Ok, Err, Option, Result, sym, refl, ap, subst, inl, inr, arith, length-append, length-drop, Bor, MatchResult}
 use Rattle.std.proofs.lemmas.Result.{err_from_is_err_and}
 use Rattle.std.proofs.lemmas.List.{drop_all}
 use Rattle.pauli.specs.declared.fault.Fault.{Fault}
@@ -14,9 +14,8 @@ use Rattle.runs.specs.declared.answer.Conditional.{Conditional}
 use Rattle.runs.specs.declared.answer.Conditional.TheVariants as C
 use Rattle.runs.specs.declared.call.Call.TheVariants as Ask
 use Rattle.runs.specs.Steps.{GateStep, ConditionalStep, MeasureStep}
-use Rattle.runs.specs.Promises.{Moment}
 use Rattle.runs.specs.States.{State}
-use Rattle.text.specs.Reading.{Hit, Miss}
+use Rattle.text.specs.Reading.{Hit}
 use Rattle.circuit_text.specs.declared.line.Line.{Line}
 use Rattle.circuit_text.specs.Reading.{NextRead}
 use Rattle.circuit_text.specs.Lines.{Said, said, gate, measure, conditional, said_text, SaidLaw, body_of}

@@ -1,11 +1,10 @@
 -- Lines 1 and 2.
-use Rattle.std.proofs.Common.{◌≡◌, ℕ, zero, suc, ◌+◌, ◌<◌, ◌≤◌, Bool, true, false, ◌&&◌, eqb, ◌≢◌, ◌⊎◌, List, [], ◌∷◌, ◌++◌, length, get_or, drop, Some, None, Ok, Err, Option, Result, sym, refl, ap, ◌∙◌, subst, inl, inr, arith, length-drop, Bor, MatchResult}
-use Rattle.std.proofs.lemmas.List.{drop_all}
+use Rattle.std.proofs.Common.{◌≡◌, ℕ, zero, suc, ◌<◌, ◌≤◌, Bool, true, false, ◌&&◌, ◌⊎◌, List, [], ◌∷◌, length, get_or, Ok, Err, Result, sym, refl, ap, ◌∙◌, subst, inl, inr, arith, Bor, MatchResult}
 use Rattle.pauli.specs.declared.fault.Fault.{Fault}
 use Rattle.pauli.specs.declared.fault.Fault.TheVariants.{BadForm, TextEnded}
 use Rattle.pauli.specs.Faults.{Answers}
 use Rattle.coins.specs.declared.text.TextCoins.{TextCoins}
-use Rattle.coins.specs.Digits.{digit, digits, coins_of, all_digits, is_digit, text_coins}
+use Rattle.coins.specs.Digits.{digits, coins_of, all_digits, is_digit, text_coins}
 use Rattle.coins.proofs.Written.{written}
 use Rattle.tableau.specs.declared.tableau.Tableau.{Tableau}
 use Rattle.tableau.specs.Tableaus.{rows_of, size_of}
@@ -13,7 +12,7 @@ use Rattle.tableau_laws.specs.Opening.{opening}
 use Rattle.tableau_laws.specs.Rules.{SameRows, sheet_of}
 use Rattle.tableau_laws.proofs.Same.{same_sheet}
 use Rattle.tableau_rows.specs.Openings.{opening_fault}
-use Rattle.text.specs.Reading.{Hit, Miss}
+use Rattle.text.specs.Reading.{Hit}
 use Rattle.text.specs.Texts.{Coins, is_coin}
 use Rattle.circuit_text.specs.declared.line.Opening.{Opening}
 use Rattle.circuit_text.specs.Lines.{opening_text, OpeningLaw, coins_line, CoinsLaw}

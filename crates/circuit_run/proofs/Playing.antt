@@ -1,5 +1,5 @@
 -- The lines played are a history, and so the promises about every run hold of them.
-use Rattle.std.proofs.Common.{◌≡◌, ℕ, ◌+◌, ◌-◌, ◌<◌, ◌≤◌, Bool, true, false, cond, leb, ◌≢◌, ◌⊎◌, List, [], ◌∷◌, ◌++◌, length, drop, Some, None, Ok, Err, Result, sym, refl, ap, ◌∙◌, subst, inl, inr, arith, length-append, length-drop, Bor, MatchResult}
+use Rattle.std.proofs.Common.{◌≡◌, ℕ, ◌+◌, ◌<◌, ◌≤◌, Bool, true, false, cond, leb, ◌≢◌, List, [], ◌∷◌, ◌++◌, length, drop, Some, None, Ok, Err, Result, sym, refl, ap, ◌∙◌, subst, inl, inr, arith, length-append, length-drop, Bor, MatchResult}
 use Rattle.std.proofs.lemmas.Bool.{leb-true, leb-false}
 use Rattle.std.proofs.lemmas.List.{append-nil, drop_all}
 use Rattle.pauli.specs.declared.fault.Fault.{Fault}
@@ -16,14 +16,14 @@ use Rattle.runs.proofs.Theorem.{always}
 use Rattle.phase.specs.Sheets.{Sheet}
 use Rattle.tableau.specs.declared.tableau.Tableau.{Tableau}
 use Rattle.tableau_rows.specs.Openings.{opening_fault}
-use Rattle.text.specs.Reading.{Hit, Miss}
+use Rattle.text.specs.Reading.{Hit}
 use Rattle.circuit_text.specs.declared.line.Opening.{Opening}
 use Rattle.circuit_text.specs.Lines.{opening_text, OpeningLaw, coins_line, CoinsLaw}
 use Rattle.circuit.specs.declared.stop.Stop.{Stop}
 use Rattle.circuit.specs.Lines.{stop, Lines, end, next, not_a_line, refused, Played}
 use Rattle.circuit_run.specs.declared.report.Finish.{Finish}
 use Rattle.circuit_run.specs.Begun.{sheet_in, Opened, Supplied}
-use Rattle.circuit_run.specs.Runs.{Fit, Begins, Supplies, opened, how_ended, Tells, PlayedOut, Ran, too_long, no_opening, bad_opening, not_opened, no_coins, bad_coins, played}
+use Rattle.circuit_run.specs.Runs.{Fit, opened, how_ended, Tells, PlayedOut, Ran, too_long, no_opening, bad_opening, not_opened, no_coins, bad_coins, played}
 use Rattle.circuit_run.proofs.Begun.{digits_law, few_digits}
 
 -- ---- lines are calls

@@ -1,10 +1,10 @@
 -- Lines made of fields.
-use Rattle.std.proofs.Common.{◌≡◌, ℕ, suc, ◌+◌, ◌<◌, ◌≤◌, Bool, List, [], ◌∷◌, ◌++◌, length, get_or, drop, sym, refl, ap, ◌∙◌, subst, ap₂, arith, length-drop}
+use Rattle.std.proofs.Common.{◌≡◌, ℕ, ◌+◌, ◌≤◌, Bool, List, ◌∷◌, ◌++◌, length, get_or, drop, sym, refl, ap, ◌∙◌, ap₂, arith, length-drop}
 use Rattle.pauli.specs.declared.gate.Gate.{Gate}
 use Rattle.pauli.specs.declared.gate.OneQubit.{OneQubit}
 use Rattle.text.specs.Reading.{Hit, Miss}
 use Rattle.text.specs.Texts.{Any, one, num, Short, sign_text, sign_byte, gate_text, Gated, turn_text, Turn, same, Letters, Coins}
-use Rattle.text.proofs.Fields.{both, Both, both_hit, both_first, both_second}
+use Rattle.text.proofs.Fields.{both, Both}
 use Rattle.text.proofs.Places.{peel}
 use Rattle.circuit_text.specs.declared.line.Opening.{Opening}
 use Rattle.circuit_text.specs.Lines.{opening_text, OpeningLaw, coins_line, CoinsLaw, Said, gate, measure, conditional, kind_of, body_of, said_text, SaidLaw}

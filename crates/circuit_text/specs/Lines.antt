@@ -1,5 +1,5 @@
 -- The lines of a circuit, up to the line feed.
-use Rattle.std.specs.Prelude.{ℕ, ◌≤◌, Bool, List, [], ◌∷◌, ◌++◌, length}
+use Rattle.std.specs.Prelude.{ℕ, ◌≤◌, Bool, List, ◌∷◌, ◌++◌, length}
 use Rattle.pauli.specs.declared.gate.Gate.{Gate}
 use Rattle.pauli.specs.declared.gate.OneQubit.{OneQubit}
 use Rattle.text.specs.Texts.{num, Short, sign_byte, gate_text, Gated, turn_text, Turn, Letters, Coins}

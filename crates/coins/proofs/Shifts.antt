@@ -1,5 +1,5 @@
 -- The register gives as many coins as it has draws, and the first is its lowest bit.
-use Rattle.std.proofs.Common.{◌≡◌, ℕ, zero, suc, ◌-◌, ◌<◌, ◌∷◌, length, sym, refl, ap, ◌∙◌, arith}
+use Rattle.std.proofs.Common.{◌≡◌, ℕ, zero, suc, ◌-◌, ◌<◌, ◌∷◌, length, refl, ap, arith}
 use Rattle.pauli.specs.Bits.{odd}
 use Rattle.coins.specs.Tosses.{next, tosses}
 

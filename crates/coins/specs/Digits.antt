@@ -1,5 +1,5 @@
 -- Coins as written digits.
-use Rattle.std.specs.Prelude.{ℕ, Bool, true, false, ◌&&◌, ◌||◌, List, [], ◌∷◌, map, ◌==◌}
+use Rattle.std.specs.Prelude.{ℕ, Bool, true, false, ◌&&◌, ◌||◌, List, [], ◌∷◌, ◌==◌}
 use Rattle.coins.specs.declared.text.TextCoins.{TextCoins}
 
 -- a coin is written as the digit 0 or 1, in ASCII

@@ -1,11 +1,11 @@
 -- The events of a journal: each lawful at its place, and the outcomes among them.
-use Rattle.std.proofs.Common.{◌≡◌, ℕ, zero, suc, ◌+◌, ◌-◌, ◌<◌, ◌≤◌, Bool, true, false, cond, ◌&&◌, leb, List, [], ◌∷◌, ◌++◌, length, get_or, take, drop, set, Some, None, Ok, Err, Option, Result, sym, refl, ap, ◌∙◌, subst, le_of_suc-le-suc, arith}
-use Rattle.std.proofs.lemmas.List.{length-take-le, get_or-take, drop_more, drop_all, take_more_set, length-set}
+use Rattle.std.proofs.Common.{◌≡◌, ℕ, zero, suc, ◌+◌, ◌-◌, ◌<◌, ◌≤◌, Bool, true, false, cond, leb, List, [], ◌∷◌, ◌++◌, length, get_or, take, drop, set, Some, None, Ok, Err, Option, Result, sym, refl, ap, ◌∙◌, subst, le_of_suc-le-suc, arith}
+use Rattle.std.proofs.lemmas.List.{length-take-le, get_or-take, drop_more, drop_all, take_more_set}
 use Rattle.std.proofs.lemmas.Option.{slice_get-get_or, slice_get_past}
 use Rattle.std.proofs.lemmas.Bool.{and_from, and_parts, le-leb, lt-leb, both_ways}
 use Rattle.std.specs.List.{slice_get}
 use Rattle.pauli.specs.declared.fault.Fault.{Fault}
-use Rattle.pauli.specs.declared.fault.Fault.TheVariants.{BadForm, JournalFull, NoEntry}
+use Rattle.pauli.specs.declared.fault.Fault.TheVariants.{BadForm, JournalFull}
 use Rattle.pauli.specs.Faults.{Answers}
 use Rattle.journal_lines.specs.declared.entry.Entry.{Entry}
 use Rattle.journal_lines.specs.declared.event.Event.{Event}

@@ -1,5 +1,5 @@
 -- No two entries share a line.
-use Rattle.std.proofs.Common.{◌≡◌, ℕ, zero, suc, ◌+◌, ◌*◌, ◌/◌, ◌%◌, ◌^◌, ◌<◌, ◌≤◌, Bool, true, false, List, [], ◌∷◌, ◌++◌, sym, refl, ap, ◌∙◌, subst, append_assoc, arith}
+use Rattle.std.proofs.Common.{◌≡◌, ℕ, zero, suc, ◌+◌, ◌/◌, ◌%◌, ◌^◌, ◌<◌, Bool, true, false, List, [], ◌∷◌, ◌++◌, sym, refl, ap, ◌∙◌, subst, append_assoc, arith}
 use native.Mathlib.Nat.{pow-succ'}
 use Rattle.std.proofs.lemmas.Bool.{and_parts}
 use Rattle.pauli.specs.declared.case.Case.{Case}
@@ -9,7 +9,6 @@ use Rattle.text.specs.Texts.{Any, num, Short, sign_text, turn_text, Turn, gate_t
 use Rattle.text.proofs.Apart.{Apart, num_apart, both_apart, sign_apart, turn_apart, gate_apart}
 use Rattle.text.proofs.Words.{coin_some, coin_none}
 use Rattle.journal_lines.specs.declared.entry.Entry.{Entry}
-use Rattle.journal_lines.specs.declared.event.Event.{Event}
 use Rattle.journal_lines.specs.declared.event.Event.TheVariants as E
 use Rattle.journal_lines.specs.Entries.{entry_line}
 use Rattle.journal_lines.specs.Lawful.{numbered, sound}

@@ -1,5 +1,5 @@
 -- Coins read one by one, and `-` for none.
-use Rattle.std.proofs.Common.{◌≡◌, ℕ, zero, suc, ◌+◌, ◌*◌, ◌/◌, ◌%◌, ◌^◌, ◌<◌, ◌≤◌, List, [], ◌∷◌, ◌++◌, length, get_or, drop, Result, sym, refl, ap, ◌∙◌, subst, append_assoc, add-one, arith}
+use Rattle.std.proofs.Common.{◌≡◌, ℕ, zero, suc, ◌+◌, ◌*◌, ◌/◌, ◌%◌, ◌^◌, ◌<◌, ◌≤◌, List, ◌∷◌, ◌++◌, get_or, drop, Result, sym, refl, ap, ◌∙◌, subst, append_assoc, add-one, arith}
 use native.Mathlib.Nat.{pow-succ'}
 use Rattle.pauli.specs.declared.fault.Fault.{Fault}
 use Rattle.text.specs.Reading.{Hit, Miss, Reads}

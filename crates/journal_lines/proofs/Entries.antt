@@ -1,9 +1,9 @@
 -- Entries and their lines: what is lawful can be read, and the line of an entry is its number and its event.
-use Rattle.std.proofs.Common.{◌≡◌, ℕ, ◌+◌, ◌^◌, ◌<◌, ◌≤◌, Bool, true, false, cond, not, ◌&&◌, eqb, ltb, leb, List, [], ◌∷◌, ◌++◌, length, drop, Some, None, Ok, Err, Result, sym, refl, ap, ◌∙◌, append_assoc, arith, length-append, length-drop}
+use Rattle.std.proofs.Common.{◌≡◌, ℕ, ◌^◌, ◌<◌, ◌≤◌, Bool, true, false, cond, ◌&&◌, ltb, List, [], ◌∷◌, ◌++◌, length, drop, Some, None, Ok, sym, refl, ap, ◌∙◌, append_assoc, arith, length-append, length-drop}
 use mathlib.Core.HLevel.{is_prop→PathP}
 use mathlib.Core.Bool.{Bool-set}
 use Rattle.std.proofs.lemmas.List.{drop_all, append-nil}
-use Rattle.std.proofs.lemmas.Bool.{and_parts, leb-true, ltb-true, both_ways}
+use Rattle.std.proofs.lemmas.Bool.{and_parts, ltb-true, both_ways}
 use Rattle.std.proofs.lemmas.Bool.Decides.{nat_tests}
 use Rattle.pauli.specs.declared.fault.Fault.{Fault}
 use Rattle.pauli.specs.declared.fault.Fault.TheVariants.{BadForm}
@@ -12,11 +12,10 @@ use Rattle.pauli.specs.declared.case.Case.TheVariants.{One, Two, Three, Four}
 use Rattle.pauli.specs.declared.gate.Gate.{Gate}
 use Rattle.pauli.specs.declared.gate.Gate.TheVariants as G
 use Rattle.pauli.specs.declared.label.Label.{Label}
-use Rattle.pauli.specs.Faults.{Answers}
 use Rattle.pauli.specs.Gates.{placeable}
 use Rattle.pauli.specs.Labels.{Within, fits, size_ok}
 use Rattle.text.specs.Reading.{Hit, Miss}
-use Rattle.text.specs.Texts.{num, Short, Gated, turn_text}
+use Rattle.text.specs.Texts.{num, Short, Gated}
 use Rattle.journal_lines.specs.declared.entry.Entry.{Entry}
 use Rattle.journal_lines.specs.declared.event.Event.{Event}
 use Rattle.journal_lines.specs.declared.event.Event.TheVariants as E
@@ -24,7 +23,7 @@ use Rattle.journal_lines.specs.declared.event.Measurement.{Measurement}
 use Rattle.journal_lines.specs.Entries.{entry_line, ReadsEntry}
 use Rattle.journal_lines.specs.Lawful.{count_ok, first_ok, measured_ok, numbered, sound, lawful, making_fault}
 use Rattle.journal_lines.specs.Lines.{line}
-use Rattle.journal_lines.specs.Parts.{Drawn, Sized, Measured, event_text, Readable}
+use Rattle.journal_lines.specs.Parts.{Measured, event_text, Readable}
 
 -- an entry is its number and its event
 pub entry_same : (e f : Entry) → e.number ≡ f.number → e.event ≡ f.event → e ≡ f

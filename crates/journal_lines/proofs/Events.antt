@@ -1,5 +1,5 @@
 -- What stands behind an entry's number: by its first byte a gate, a conditional gate or a measurement.
-use Rattle.std.proofs.Common.{◌≡◌, ℕ, Bool, true, false, List, [], ◌∷◌, ◌++◌, drop, sym, refl, ap, ◌∙◌, arith}
+use Rattle.std.proofs.Common.{◌≡◌, ℕ, Bool, true, false, List, ◌∷◌, ◌++◌, drop, sym, refl, ap, ◌∙◌, arith}
 use Rattle.pauli.specs.declared.gate.OneQubit.{OneQubit}
 use Rattle.text.specs.Reading.{Hit, Miss}
 use Rattle.text.specs.Texts.{Any, one, gate_text}

@@ -1,15 +1,14 @@
 -- How long lines are.
-use Rattle.std.proofs.Common.{◌≡◌, ℕ, zero, suc, ◌+◌, ◌^◌, ◌<◌, ◌≤◌, Bool, true, false, ◌&&◌, ltb, List, [], ◌∷◌, ◌++◌, length, sym, refl, ap, ◌∙◌, arith, length-append}
+use Rattle.std.proofs.Common.{◌≡◌, ℕ, zero, suc, ◌+◌, ◌^◌, ◌<◌, ◌≤◌, Bool, true, false, ◌&&◌, ltb, [], ◌∷◌, ◌++◌, length, refl, ap, arith, length-append}
 use Rattle.std.proofs.lemmas.Bool.{and_parts}
 use Rattle.std.proofs.lemmas.Bool.Decides.{nat_tests}
 use Rattle.pauli.specs.declared.case.Case.{Case}
 use Rattle.pauli.specs.declared.case.Case.TheVariants.{One, Two, Three, Four}
 use Rattle.pauli.specs.declared.gate.Gate.{Gate}
 use Rattle.pauli.specs.declared.gate.Gate.TheVariants as G
-use Rattle.pauli.specs.declared.label.Label.{Label}
 use Rattle.pauli.specs.Cases.{case_number}
-use Rattle.pauli.specs.Labels.{label_text, size_ok, fits}
-use Rattle.text.specs.Texts.{num, Short, gate_text, Gated, turn_text, coin_text}
+use Rattle.pauli.specs.Labels.{size_ok, fits}
+use Rattle.text.specs.Texts.{num, Short, gate_text, Gated, coin_text}
 use Rattle.text.proofs.Numbers.{num_within, num_digit, num_digits}
 use Rattle.text.proofs.Words.{length_letters, length_coins, coin_some, coin_none}
 use Rattle.journal_lines.specs.declared.entry.Entry.{Entry}

@@ -1,5 +1,5 @@
 -- A measurement's fields, one after another.
-use Rattle.std.proofs.Common.{◌≡◌, ℕ, Bool, List, refl, ap}
+use Rattle.std.proofs.Common.{◌≡◌, ℕ, Bool, List, refl}
 use Rattle.pauli.specs.declared.case.Case.{Case}
 use Rattle.pauli.specs.declared.label.Label.{Label}
 use Rattle.text.specs.Reading.{Hit, Miss}

@@ -1,5 +1,5 @@
 -- Words and powers of two.
-use Rattle.std.proofs.Common.{◌≡◌, ℕ, ◌*◌, ◌/◌, ◌^◌, ◌<◌, ◌≤◌, Bool, true, false, eqb, ltb, leb, sym, refl, ap, ◌∙◌, le-div_iff_mul-le, arith, pow_pos, pow_mono, ltb-false, ltb-true, lt-ltb, ne_eqb, le-leb}
+use Rattle.std.proofs.Common.{◌≡◌, ℕ, ◌/◌, ◌^◌, ◌<◌, ◌≤◌, Bool, true, false, eqb, ltb, leb, sym, refl, ap, ◌∙◌, le-div_iff_mul-le, arith, pow_pos, pow_mono, ltb-false, ltb-true, lt-ltb, ne_eqb, le-leb}
 use native.Mathlib.Nat.{div-eq_of_lt}
 
 -- a word shifted right by n is 0 exactly if it is below 2 ^ n

@@ -1,5 +1,5 @@
 -- The parts of a line behind the entry's number, as its readers take them: the text of each, and which values it is read for.
-use Rattle.std.specs.Prelude.{◌≡◌, ℕ, ◌^◌, ◌<◌, ◌≤◌, Bool, true, List, [], ◌∷◌, ◌++◌}
+use Rattle.std.specs.Prelude.{◌≡◌, ℕ, ◌^◌, ◌<◌, ◌≤◌, Bool, true, List, ◌∷◌, ◌++◌}
 use Rattle.pauli.specs.declared.case.Case.{Case}
 use Rattle.pauli.specs.declared.gate.OneQubit.{OneQubit}
 use Rattle.pauli.specs.declared.label.Label.{Label}

@@ -1,5 +1,5 @@
 -- Words and powers of two.
-use Rattle.std.proofs.Common.{◌≡◌, ℕ, ◌*◌, ◌/◌, ◌^◌, ◌<◌, ◌≤◌, Bool, true, false, eqb, ltb, refl, ap, le-div_iff_mul-le, arith, pow_pos, ltb-false, ltb-true, ne_eqb}
+use Rattle.std.proofs.Common.{◌≡◌, ℕ, ◌/◌, ◌^◌, ◌≤◌, Bool, true, false, eqb, ltb, refl, ap, le-div_iff_mul-le, arith, pow_pos, ltb-false, ltb-true, ne_eqb}
 use native.Mathlib.Nat.{div-eq_of_lt}
 
 -- a word shifted right by n is 0 exactly if it is below 2 ^ n

@@ -1,11 +1,11 @@
 -- A look has one answer: a label has one case and one count, and the count is at most the size.
-use Rattle.std.proofs.Common.{◌≡◌, ℕ, zero, suc, ◌+◌, ◌<◌, ◌≤◌, Bool, true, false, Some, None, Option, sym, refl, ap, ◌∙◌, subst, mod-lt, arith}
+use Rattle.std.proofs.Common.{◌≡◌, ℕ, zero, suc, ◌+◌, ◌≤◌, Bool, Some, None, Option, sym, refl, ◌∙◌, subst, arith}
 use Rattle.pauli.specs.declared.case.Case.{Case}
 use Rattle.pauli.specs.declared.case.Case.TheVariants.{One, Two, Three, Four}
 use Rattle.pauli.specs.declared.label.Label.{Label}
 use Rattle.pauli.specs.Labels.{pairing}
 use Rattle.phase.specs.LabelCases.{InCase, against, Against, Needs, Looked}
-use Rattle.phase.specs.Sheets.{Values, Sheet, SheetRays, Lawful}
+use Rattle.phase.specs.Sheets.{Values, Sheet, Lawful}
 
 pub not_both : {X : Type 0} {o : Option Bool} {v : Bool} → o ≡ Some v → o ≡ None → X
 not_both p q = absurd (go p q)

@@ -1,5 +1,5 @@
 -- Value sheets and their laws.
-use Rattle.std.specs.Prelude.{◌≡◌, ℕ, ◌+◌, ◌-◌, ◌^◌, ◌<◌, ◌≤◌, Bool, true, false, ◌≢◌, Some, None, Option}
+use Rattle.std.specs.Prelude.{◌≡◌, ℕ, ◌+◌, ◌-◌, ◌^◌, ◌<◌, ◌≤◌, Bool, false, ◌≢◌, Some, Option}
 use Rattle.pauli.specs.declared.label.Label.{Label}
 use Rattle.pauli.specs.Bits.{xorb, odd}
 use Rattle.pauli.specs.Labels.{plus, pairing, beta, zero_label, Within}

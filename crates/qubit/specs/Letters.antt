@@ -1,19 +1,16 @@
 -- The four labels of one qubit: their products, pairings and signs, one by one.
-use Rattle.std.specs.Prelude.{◌≡◌, ℕ, zero, suc, ◌+◌, ◌^◌, ◌<◌, ◌≤◌, Bool, true, false, cond, not, Some, None, Option, refl}
-use Rattle.std.proofs.Common.{sym, ap, subst, ◌∙◌, arith}
-use Rattle.std.specs.Int.Bits.{bit_and, bit_xor}
+use Rattle.std.specs.Prelude.{◌≡◌, ℕ, Bool, true, false, not, Some, refl}
+use Rattle.std.proofs.Common.{sym}
 use Rattle.std.specs.Int.Count.{ones}
 use Rattle.pauli.specs.declared.gate.OneQubit.{OneQubit}
 use Rattle.pauli.specs.declared.gate.OneQubit.TheVariants as G
 use Rattle.pauli.specs.declared.gate.Gate.TheVariants.{One}
-use Rattle.pauli.specs.declared.label.Label.{Label}
 use Rattle.pauli.specs.declared.letter.Letter.{Letter}
 use Rattle.pauli.specs.declared.letter.Letter.TheVariants.{I, X, Y, Z}
-use Rattle.pauli.specs.Bits.{xorb, odd}
+use Rattle.pauli.specs.Bits.{xorb}
 use Rattle.pauli.specs.Gates.{moved, flips, image_of}
 use Rattle.pauli_laws.proofs.Signs.{xorb_false}
-use Rattle.pauli.specs.Labels.{at, fits, pairing, plus, beta, us, ys, ks, Within}
-use Rattle.phase.specs.Effects.{signed}
+use Rattle.pauli.specs.Labels.{fits, pairing, plus}
 use Rattle.qubit.specs.declared.point.Qubit.{Qubit}
 use Rattle.qubit.specs.OneQubit.{sign_of, sheet_of, turned_by, label_of}
 

@@ -1,5 +1,5 @@
 -- The values of a point of one qubit and width 1, and what a gate and a coin make of them.
-use Rattle.std.specs.Prelude.{ℕ, Bool, true, false, cond, not, Some, None, Option}
+use Rattle.std.specs.Prelude.{ℕ, Bool, false, cond, not, Some, None}
 use Rattle.pauli.specs.declared.case.Case.{Case}
 use Rattle.pauli.specs.declared.case.Case.TheVariants.{One, Two}
 use Rattle.pauli.specs.declared.gate.OneQubit.{OneQubit}

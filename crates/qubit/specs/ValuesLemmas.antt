@@ -1,11 +1,10 @@
 -- One qubit of width 1 meets the laws, and its gates, looks and measurements are what they must be.
-use Rattle.std.specs.Prelude.{◌≡◌, ℕ, zero, suc, ◌+◌, ◌<◌, ◌≤◌, Bool, true, false, cond, not, ◌&&◌, ◌≢◌, Some, None, Option, nat_le}
+use Rattle.std.specs.Prelude.{◌≡◌, ℕ, zero, suc, ◌<◌, Bool, true, false, cond, not, ◌&&◌, ◌≢◌, Some, None, Option, nat_le}
 use Rattle.std.specs.Bool.{beq}
 use Rattle.std.proofs.Math.Path.{refl}
 use Rattle.std.proofs.Common.{sym, ap, subst, ◌∙◌}
 use native.Mathlib.Omega.{arith}
 use Rattle.std.proofs.lemmas.Bool.Decides.{nat_tests}
-use Rattle.pauli.specs.declared.case.Case.{Case}
 use Rattle.pauli.specs.declared.fault.Fault.{Fault}
 use Rattle.pauli.specs.declared.fault.Fault.TheVariants.{BadQubit}
 use Rattle.pauli.specs.declared.gate.OneQubit.{OneQubit}
@@ -21,8 +20,8 @@ use Rattle.pauli_laws.proofs.Phases.{beta_self, zero_beta, beta_zero}
 use Rattle.pauli_laws.proofs.Signs.{xorb_false, xorb_self}
 use Rattle.pauli_laws.proofs.Texts.{fits_within, within_fits}
 use Rattle.phase.specs.Effects.{signed, Gated, Effect, Measured, Unchanged, Turned}
-use Rattle.phase.specs.LabelCases.{InCase, Looked}
-use Rattle.phase.specs.Sheets.{Sheet, Lawful, Central, Outer, Exactly, Rays, Valued}
+use Rattle.phase.specs.LabelCases.{Looked}
+use Rattle.phase.specs.Sheets.{Lawful, Central, Outer, Valued}
 use Rattle.qubit.specs.declared.point.Qubit.{Qubit}
 use Rattle.qubit.specs.OneQubit.{sign_of, case_of, coins_of, sheet_of, turned_by, label_of, flipped_by}
 use Rattle.qubit.specs.Letters.{mul, against, plus_letters, pairing_letters, value_letter, moved_letter, flips_letter, turned_sign}

@@ -16,9 +16,9 @@ use Rattle.coins.specs.Coins.{bits}
 use Rattle.phase.specs.Effects.{first_coin}
 use Rattle.phase.specs.Sheets.{Sheet, Lawful}
 use Rattle.journal_lines.specs.declared.event.Event.{Event}
-use Rattle.journal_lines.specs.declared.event.Event.TheVariants.{Gate as GateEvent, Conditional as ConditionalEvent, Measurement as MeasurementEvent}
+use Rattle.journal_lines.specs.declared.event.Event.TheVariants.{Gate as GateEvent, Conditional as ConditionalEvent}
 use Rattle.runs.specs.declared.answer.Answer.{Answer}
-use Rattle.runs.specs.declared.answer.Answer.TheVariants.{Done, PassedOver, Outcome, Refused}
+use Rattle.runs.specs.declared.answer.Answer.TheVariants.{Done, Outcome, Refused}
 use Rattle.runs.specs.declared.answer.Conditional.{Conditional}
 use Rattle.runs.specs.declared.answer.Conditional.TheVariants as C
 use Rattle.runs.specs.declared.call.Call.{Call}
@@ -29,7 +29,7 @@ use Rattle.runs.specs.Refusals.{before, full_fault}
 use Rattle.runs.specs.Spent.{spent}
 use Rattle.runs.specs.Standing.{Among, TrueTo, outcome_row, stand_after}
 use Rattle.runs.specs.States.{State}
-use Rattle.runs.specs.Steps.{GateDone, GateStep, Passed, ConditionalStep, Measured, MeasureStep, Step, gate_answer, conditional_answer, measure_answer, line_answer}
+use Rattle.runs.specs.Steps.{GateDone, GateStep, ConditionalStep, MeasureStep, Step, gate_answer, conditional_answer, measure_answer}
 use Rattle.runs.proofs.Rows.{product_value, stood_gate, stood_measure, effect_told, effect_width}
 use Rattle.runs.proofs.Shown.{coins_of, spent_more}
 

@@ -1,5 +1,5 @@
 -- Rows that stand are true to the sheet: each has its value there, and any two commute.
-use Rattle.std.proofs.Common.{◌≡◌, ℕ, ◌+◌, ◌%◌, ◌≤◌, Bool, true, false, cond, ◌&&◌, ◌⊎◌, List, [], ◌∷◌, map, Some, None, Option, sym, refl, ap, ◌∙◌, subst, inl, inr, arith}
+use Rattle.std.proofs.Common.{◌≡◌, ℕ, ◌+◌, ◌%◌, ◌≤◌, Bool, true, false, cond, ◌&&◌, List, [], ◌∷◌, map, Some, None, Option, sym, refl, ap, ◌∙◌, inl, inr, arith}
 use Rattle.std.proofs.lemmas.Bool.Decides.{nat_tests}
 use Rattle.pauli.specs.declared.case.Case.{Case}
 use Rattle.pauli.specs.declared.case.Case.TheVariants.{One, Two, Three, Four}
@@ -8,7 +8,7 @@ use Rattle.pauli.specs.declared.label.Label.{Label}
 use Rattle.pauli.specs.declared.row.Row.{Row}
 use Rattle.pauli.specs.Bits.{xorb, odd}
 use Rattle.pauli.specs.Gates.{carry, moved, flips, gate_fault}
-use Rattle.pauli.specs.Labels.{plus, pairing, zero_label}
+use Rattle.pauli.specs.Labels.{pairing}
 use Rattle.pauli.specs.Rows.{row, product}
 use Rattle.pauli_laws.proofs.Algebra.{pairing_comm, pairing_r, pairing_lt, pairing_self, pairing_zero_r}
 use Rattle.pauli_laws.proofs.Gates.{gate_pairings}

@@ -1,5 +1,5 @@
 -- The coins that an entry's line shows are the coins in the entry.
-use Rattle.std.proofs.Common.{◌≡◌, ℕ, zero, suc, ◌+◌, ◌/◌, ◌%◌, ◌<◌, ◌≤◌, Bool, true, false, cond, eqb, List, [], ◌∷◌, ◌++◌, length, sym, refl, ap, ◌∙◌, subst, ⊎_elim, append_assoc, add-suc, arith}
+use Rattle.std.proofs.Common.{◌≡◌, ℕ, zero, suc, ◌+◌, ◌/◌, ◌%◌, ◌<◌, Bool, true, false, cond, eqb, List, [], ◌∷◌, ◌++◌, length, sym, refl, ap, ◌∙◌, subst, append_assoc, arith}
 use Rattle.std.proofs.lemmas.Bool.Decides.{nat_tests}
 use Rattle.pauli.specs.Bits.{odd}
 use Rattle.pauli.specs.Cases.{case_number}
@@ -11,7 +11,6 @@ use Rattle.text.proofs.Numbers.{Shape, one, two, three, shape}
 use Rattle.text.proofs.Words.{coin_some, coin_none}
 use Rattle.journal_lines.specs.declared.event.Event.{Event}
 use Rattle.journal_lines.specs.declared.event.Event.TheVariants.{Gate, Conditional, Measurement as Measured}
-use Rattle.journal_lines.specs.declared.event.Measurement.{Measurement}
 use Rattle.journal_lines.specs.Lines.{line, bit}
 use Rattle.runs.specs.Readings.{lines_from, readings}
 use Rattle.runs.specs.Spent.{after_comma, since_comma, coins_in, begins_with_M, shown, spent}

@@ -7,9 +7,7 @@ use Rattle.pauli.specs.declared.row.Row.{Row}
 use Rattle.pauli.specs.Bits.{xorb}
 use Rattle.pauli.specs.Rows.{product}
 use Rattle.phase.proofs.Unique.{one_case}
-use Rattle.runs.specs.declared.answer.Answer.{Answer}
 use Rattle.runs.specs.declared.answer.Answer.TheVariants.{Outcome}
-use Rattle.runs.specs.declared.call.Call.{Call}
 use Rattle.runs.specs.declared.call.Call.TheVariants.{Measure}
 use Rattle.runs.specs.Promises.{Moment, told, reached, History, CaseOf, CasesOf, twos, fours, Holds, Throughout}
 use Rattle.runs.specs.Readings.{readings}

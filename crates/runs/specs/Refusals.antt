@@ -1,5 +1,5 @@
 -- Why a session refuses a call. Of two reasons the one of the smaller number counts.
-use Rattle.std.specs.Prelude.{ℕ, Bool, cond, List, length, Some, None, Option, nat_lt}
+use Rattle.std.specs.Prelude.{ℕ, cond, List, length, Some, None, Option, nat_lt}
 use Rattle.pauli.specs.declared.fault.Fault.{Fault}
 use Rattle.pauli.specs.declared.fault.Fault.TheVariants.{BadLabel, NoOutcome, JournalFull}
 use Rattle.pauli.specs.declared.gate.Gate.{Gate}

@@ -1,5 +1,5 @@
 -- What each call of a session does, in one state, and answers.
-use Rattle.std.specs.Prelude.{◌≡◌, ℕ, ◌^◌, ◌<◌, Bool, true, false, ◌⊎◌, List, [], ◌∷◌, ◌++◌, length, Some, None, Ok, Err, Option, Result}
+use Rattle.std.specs.Prelude.{◌≡◌, ℕ, ◌^◌, ◌<◌, Bool, true, false, ◌⊎◌, [], ◌∷◌, ◌++◌, length, Some, None, Ok, Err, Option, Result}
 use Rattle.pauli.specs.declared.case.Case.{Case}
 use Rattle.pauli.specs.declared.fault.Fault.{Fault}
 use Rattle.pauli.specs.declared.fault.Fault.TheVariants.{TooFewCoins}
@@ -11,7 +11,6 @@ use Rattle.coins.specs.Coins.{bits}
 use Rattle.phase.specs.Answers.{value_answer}
 use Rattle.phase.specs.Effects.{Gated, Effect, first_coin}
 use Rattle.phase.specs.LabelCases.{Looked}
-use Rattle.phase.specs.Sheets.{Sheet}
 use Rattle.journal_lines.specs.declared.event.Event.{Event}
 use Rattle.journal_lines.specs.declared.event.Event.TheVariants.{Gate as GateEvent, Conditional as ConditionalEvent, Measurement as MeasurementEvent}
 use Rattle.journal.specs.Journals.{outcomes, kth}

@@ -1,5 +1,5 @@
 -- What a session records is lawful.
-use Rattle.std.proofs.Common.{◌≡◌, ℕ, zero, suc, ◌+◌, ◌^◌, ◌<◌, ◌≤◌, Bool, true, false, cond, not, ◌&&◌, eqb, ltb, leb, ◌⊎◌, List, [], ◌∷◌, length, Some, None, Ok, Option, sym, refl, ap, ◌∙◌, subst, inl, inr, arith, eq-eqb}
+use Rattle.std.proofs.Common.{◌≡◌, ℕ, zero, suc, ◌+◌, ◌^◌, ◌<◌, ◌≤◌, Bool, true, false, cond, not, ◌&&◌, eqb, ltb, leb, ◌⊎◌, List, [], ◌∷◌, length, Some, None, Ok, Option, refl, ap, ◌∙◌, subst, inl, inr, arith, eq-eqb}
 use mathlib.Core.Bool.{beq}
 use Rattle.std.proofs.lemmas.Bool.Decides.{nat_tests}
 use Rattle.std.specs.List.{slice_get}
@@ -22,7 +22,6 @@ use Rattle.phase.proofs.Unique.{one_look, few_coins}
 use Rattle.sheet_laws.proofs.LabelCases.{case_laws}
 use Rattle.journal_lines.specs.declared.event.Event.{Event}
 use Rattle.journal_lines.specs.declared.event.Event.TheVariants as E
-use Rattle.journal_lines.specs.declared.event.Measurement.{Measurement}
 use Rattle.journal.specs.Journals.{kth, outcomes, answer}
 use Rattle.journal_lines.specs.Lawful.{count_ok, first_ok, measured_ok, sound}
 use Rattle.runs.specs.Refusals.{before}

@@ -12,7 +12,6 @@ use Rattle.pauli_laws.proofs.Algebra.{pairing_lt}
 use Rattle.pauli_laws.proofs.Numbers.{bit_cases}
 use Rattle.phase.proofs.Unique.{one_case, one_look}
 use Rattle.sheet_laws.proofs.Central.{in_centre, open_rays, open_rays_J, opened}
-use Rattle.sheet_laws.proofs.Frames.{full}
 use Rattle.sheet_laws.proofs.Rays.{even, same_count, some_anti, three_left}
 
 -- a numbered label that anticommutes with b, or none

@@ -8,7 +8,6 @@ use Rattle.phase.specs.Sheets.{Central, Valued, Values}
 use Rattle.sheet_laws.specs.Closed.{Closed}
 use Rattle.pauli_laws.proofs.Algebra.{pairing_comm, pairing_l, pairing_lt, pairing_r, pairing_self, pairing_zero, plus_right, plus_within}
 use Rattle.pauli_laws.proofs.Numbers.{bit_cases}
-use Rattle.pauli_laws.proofs.PlacePhases.{u}
 use Rattle.sheet_laws.proofs.Central.{shifted}
 use Rattle.sheet_laws.proofs.Counting.{fewer}
 use Rattle.sheet_laws.proofs.Frames.{full}

@@ -1,5 +1,5 @@
 -- A sheet carried through a map that keeps sums and pairings keeps the laws. So do gates; and so does Case 2, which carries each label to itself.
-use Rattle.std.proofs.Common.{◌≡◌, ℕ, zero, ◌+◌, ◌-◌, ◌%◌, ◌^◌, ◌<◌, Bool, false, ◌&&◌, ◌⊎◌, Some, None, Option, sym, refl, ap, ◌∙◌, subst, ap₂, inl, inr, arith}
+use Rattle.std.proofs.Common.{◌≡◌, ℕ, ◌+◌, ◌-◌, ◌%◌, ◌^◌, ◌<◌, Bool, false, ◌&&◌, ◌⊎◌, Some, None, Option, sym, refl, ap, ◌∙◌, subst, ap₂, inl, inr, arith}
 use Rattle.pauli.specs.declared.label.Label.{Label}
 use Rattle.pauli.specs.Bits.{odd, xorb}
 use Rattle.pauli.specs.Gates.{flips, moved}

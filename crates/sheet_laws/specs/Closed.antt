@@ -1,5 +1,5 @@
 -- The working form of the sheet laws.
-use Rattle.std.specs.Prelude.{◌≡◌, ℕ, ◌+◌, ◌^◌, ◌<◌, Bool, false, ◌≢◌, ◌⊎◌, Some}
+use Rattle.std.specs.Prelude.{◌≡◌, ℕ, ◌^◌, ◌<◌, Bool, false, ◌≢◌, ◌⊎◌, Some}
 use Rattle.pauli.specs.declared.label.Label.{Label}
 use Rattle.pauli.specs.Bits.{xorb, odd}
 use Rattle.pauli.specs.Labels.{plus, pairing, beta, zero_label, Within}

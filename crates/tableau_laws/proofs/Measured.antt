@@ -7,7 +7,6 @@ use Rattle.pauli.specs.declared.row.Row.{Row}
 use Rattle.pauli.specs.Bits.{xorb}
 use Rattle.pauli.specs.Labels.{Within, pairing}
 use Rattle.phase.specs.Effects.{Effect, Measured, first_coin, signed}
-use Rattle.tableau_laws.specs.Places.{count}
 use Rattle.tableau_laws.specs.Rules.{LawfulRows, Rows, against_b, first_against, look_rows, measured_rows, outcome_in, outcome_of, p_of, q_of, rows_in, sheet_of}
 use Rattle.tableau_laws.specs.Tableaux.{answer, jw_count, labels, sign_read, stab_count}
 use Rattle.sheet_laws.proofs.LabelCases.{three_coins}

@@ -1,5 +1,5 @@
 -- How many places pass a test, and which is the n-th of them.
-use Rattle.std.proofs.Common.{◌≡◌, ℕ, zero, suc, ◌+◌, ◌<◌, ◌≤◌, Bool, true, false, cond, not, ◌&&◌, eqb, List, length, get_or, set, sym, refl, ap, ◌∙◌, ap₂, add-one, arith, get_or-set_other, get_or-set_same, below_more, ne_eqb, eqb-true}
+use Rattle.std.proofs.Common.{◌≡◌, ℕ, zero, suc, ◌+◌, ◌<◌, Bool, true, false, cond, ◌&&◌, eqb, List, length, get_or, set, sym, refl, ap, ◌∙◌, ap₂, add-one, arith, get_or-set_other, get_or-set_same, below_more, ne_eqb, eqb-true}
 use borrow.Author.Tests.{eqb-false}
 use Rattle.pauli_laws.specs.Words.{num}
 use Rattle.tableau_laws.specs.Places.{count, nth, all_below}

@@ -1,14 +1,12 @@
 -- The rows that Case 3 leaves, from its two passes.
-use Rattle.std.proofs.Common.{◌≡◌, ℕ, zero, suc, ◌+◌, ◌-◌, ◌/◌, ◌<◌, ◌≤◌, Bool, true, false, cond, not, ltb, List, length, set, sym, refl, ap, ◌∙◌, subst, ap₂, arith, get_or-set_other, get_or-set_same, ltb-false, ltb-true, le-ltb, lt-ltb}
+use Rattle.std.proofs.Common.{◌≡◌, ℕ, zero, suc, ◌+◌, ◌-◌, ◌/◌, ◌<◌, ◌≤◌, Bool, true, false, cond, ltb, List, length, set, sym, refl, ap, ◌∙◌, subst, ap₂, arith, get_or-set_other, get_or-set_same, ltb-false, ltb-true, le-ltb, lt-ltb}
 use Rattle.pauli.specs.declared.label.Label.{Label}
 use Rattle.pauli.specs.declared.row.Row.{Row}
 use Rattle.pauli.specs.Labels.{plus, zero_label}
 use Rattle.pauli.specs.Rows.{row}
-use Rattle.phase.specs.LabelCases.{against}
-use Rattle.pauli_laws.specs.Words.{num}
-use Rattle.tableau_laws.specs.Places.{total, count, glue}
+use Rattle.tableau_laws.specs.Places.{count, glue}
 use Rattle.tableau_laws.specs.Rules.{Rows, SameRows, against_b, stab, dest, first_g, g_of, new_sign, three_rows}
-use Rattle.tableau_laws.specs.Tableaux.{labels, jw_count}
+use Rattle.tableau_laws.specs.Tableaux.{jw_count}
 use Rattle.tableau_rows.specs.Parts.{row_in, label_in, Parted, Paired}
 use Rattle.tableau_laws.proofs.Places.{count_not, count_against}
 use Rattle.tableau_laws.proofs.Same.{total_same}

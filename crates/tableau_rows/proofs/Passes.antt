@@ -1,10 +1,10 @@
 -- Passes over rows, one place at a time.
-use Rattle.std.proofs.Common.{◌≡◌, ℕ, zero, suc, ◌+◌, ◌<◌, ◌≤◌, Bool, true, false, cond, eqb, List, length, get_or, set, sym, refl, ap, ◌∙◌, mod-eq_of_lt, add-one, arith, get_or-set_other, get_or-set_same, below_more}
+use Rattle.std.proofs.Common.{◌≡◌, ℕ, zero, suc, ◌+◌, ◌<◌, ◌≤◌, Bool, true, false, cond, List, length, get_or, set, sym, refl, ap, ◌∙◌, mod-eq_of_lt, add-one, arith, get_or-set_other, get_or-set_same, below_more}
 use Rattle.pauli.specs.declared.label.Label.{Label}
 use Rattle.pauli.specs.declared.row.Row.{Row}
 use Rattle.pauli.specs.Bits.{odd}
 use Rattle.pauli.specs.Labels.{pairing}
-use Rattle.pauli.specs.Rows.{times, zero_row}
+use Rattle.pauli.specs.Rows.{times}
 use Rattle.phase.specs.LabelCases.{against}
 use Rattle.pauli_laws.specs.Products.{chosen}
 use Rattle.pauli_laws.specs.Words.{num}

@@ -1,11 +1,10 @@
 -- The words of the opening rows.
-use Rattle.std.proofs.Common.{◌≡◌, ℕ, zero, suc, ◌+◌, ◌*◌, ◌/◌, ◌%◌, ◌^◌, ◌<◌, Bool, true, false, cond, eqb, List, [], ◌∷◌, sym, refl, ap, ◌∙◌, ap₂, mod-eq_of_lt, mul_assoc, one-mul, mul-zero, mul-one, mul-add, arith, pow-add, eq-eqb, ne_eqb}
+use Rattle.std.proofs.Common.{◌≡◌, ℕ, zero, suc, ◌+◌, ◌*◌, ◌/◌, ◌%◌, ◌^◌, ◌<◌, Bool, false, cond, eqb, List, [], ◌∷◌, sym, refl, ap, ◌∙◌, ap₂, mod-eq_of_lt, mul_assoc, one-mul, mul-zero, mul-one, mul-add, arith, pow-add, eq-eqb, ne_eqb}
 use native.Mathlib.Nat.{pow-succ'}
 use lib.Pow.{pow-lt}
 use Rattle.pauli.specs.declared.letter.Letter.{Letter}
 use Rattle.pauli.specs.declared.letter.Letter.TheVariants.{I, X, Y, Z}
 use Rattle.pauli.specs.declared.label.Label.{Label}
-use Rattle.pauli.specs.declared.row.Row.{Row}
 use Rattle.pauli.specs.Bits.{odd}
 use Rattle.pauli.specs.Rows.{row}
 use Rattle.pauli_laws.specs.Words.{word}

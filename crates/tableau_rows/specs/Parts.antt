@@ -4,7 +4,7 @@ use Rattle.pauli.specs.declared.label.Label.{Label}
 use Rattle.pauli.specs.declared.row.Row.{Row}
 use Rattle.pauli.specs.Labels.{zero_label}
 use Rattle.pauli.specs.Rows.{row, times, zero_row}
-use Rattle.tableau_laws.specs.Places.{total, count, nth}
+use Rattle.tableau_laws.specs.Places.{count, nth}
 use Rattle.tableau_laws.specs.Rules.{against_b, stab, dest, new_sign}
 
 abbrev pub row_in : List Row → ℕ → Row

@@ -1,8 +1,7 @@
 -- No two values share a field.
-use Rattle.std.proofs.Common.{◌≡◌, ℕ, ◌+◌, ◌*◌, ◌<◌, ◌≤◌, Bool, true, false, List, [], ◌∷◌, ◌++◌, sym, refl, ap, ◌∙◌, append_assoc, arith}
-use Rattle.pauli.specs.declared.gate.Gate.{Gate}
+use Rattle.std.proofs.Common.{◌≡◌, ℕ, ◌<◌, true, false, List, ◌∷◌, ◌++◌, sym, refl, ap, ◌∙◌, append_assoc, arith}
 use Rattle.pauli.specs.declared.gate.Gate.TheVariants as G
-use Rattle.text.specs.Texts.{Any, num, Short, sign_byte, sign_text, gate_byte, turn_text, Turn, pair_text, Pair, gate_text, Gated}
+use Rattle.text.specs.Texts.{Any, num, Short, sign_text, gate_byte, turn_text, Turn, pair_text, gate_text, Gated}
 use Rattle.text.proofs.Fields.{both, Both}
 use Rattle.text.proofs.Gates.{gate_same, not_c}
 use Rattle.text.proofs.Numbers.{At, seen}

@@ -1,11 +1,11 @@
 -- The fields of gates: by their first byte they are CX or a one-qubit gate.
-use Rattle.std.proofs.Common.{◌≡◌, ℕ, ◌+◌, ◌<◌, cond, eqb, List, [], ◌∷◌, ◌++◌, length, get_or, drop, sym, refl, ap, ◌∙◌, arith}
+use Rattle.std.proofs.Common.{◌≡◌, ℕ, ◌+◌, cond, eqb, List, ◌∷◌, ◌++◌, get_or, drop, sym, refl, ap, ◌∙◌, arith}
 use Rattle.pauli.specs.declared.gate.OneQubit.{OneQubit}
 use Rattle.pauli.specs.declared.gate.OneQubit.TheVariants.{H, S, X, Y, Z}
 use Rattle.pauli.specs.declared.gate.Gate.{Gate}
 use Rattle.pauli.specs.declared.gate.Gate.TheVariants.{One, Cx}
 use Rattle.text.specs.Reading.{Hit, Miss}
-use Rattle.text.specs.Texts.{Any, one, num, gate_byte, turn_text, Turn, pair_text, Pair, gate_text, Gated}
+use Rattle.text.specs.Texts.{Any, one, gate_byte, turn_text, Turn, pair_text, Pair, gate_text, Gated}
 use Rattle.text.proofs.Places.{peel, unpeel, present}
 
 -- a name names one gate

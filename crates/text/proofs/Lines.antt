@@ -1,9 +1,9 @@
 -- The line of some fields, from its first to its last.
-use Rattle.std.proofs.Common.{◌≡◌, ℕ, ◌+◌, ◌<◌, ◌≤◌, List, [], ◌∷◌, ◌++◌, map, length, get_or, drop, sym, refl, ap, ◌∙◌, ⊎_elim, arith, length-append}
+use Rattle.std.proofs.Common.{◌≡◌, ℕ, ◌+◌, ◌<◌, ◌≤◌, List, [], ◌∷◌, ◌++◌, map, length, get_or, drop, ap, arith, length-append}
 use Rattle.std.proofs.lemmas.List.{drop_more, drop_all}
 use Rattle.text.specs.declared.write.Field.{Field}
 use Rattle.text.specs.declared.write.Field.TheVariants.{Number}
-use Rattle.text.specs.Lines.{field_text, separator, line, line_of}
+use Rattle.text.specs.Lines.{field_text, separator, line_of}
 
 -- the field at a place, and the fields after it
 pub line_more : (fs : List Field) (i : ℕ) → i < length fs → line_of (drop i fs) ≡ field_text (get_or fs i (Number 0)) ++ separator (map field_text (drop (i + 1) fs)) ∷ line_of (drop (i + 1) fs)

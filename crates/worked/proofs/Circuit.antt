@@ -1,5 +1,5 @@
 -- The circuit of four measurements, line by line.
-use Rattle.std.proofs.Common.{◌≡◌, ℕ, zero, suc, ◌+◌, ◌^◌, ◌<◌, Bool, true, false, List, [], ◌∷◌, ◌++◌, length, get_or, None, Ok, codes, Result, refl, arith, lit<, lit≤}
+use Rattle.std.proofs.Common.{◌≡◌, ℕ, zero, suc, ◌+◌, ◌^◌, ◌<◌, Bool, true, false, List, [], ◌∷◌, ◌++◌, get_or, None, Ok, codes, Result, refl, arith, lit<, lit≤}
 use lib.Count.{ones}
 use Rattle.pauli.specs.declared.label.Label.{Label}
 use Rattle.pauli.specs.Labels.{beta, ks, pairing, plus, us, ys, fits, Within, label_text}
@@ -16,9 +16,9 @@ use Rattle.tableau_laws.proofs.Answered.{lawful}
 use Rattle.tableau_laws.proofs.Opening.{opening_pattern}
 use Rattle.std.specs.Fmt.{digits}
 use Rattle.text.specs.Texts.{Letters, coin_text, num}
-use Rattle.circuit_text.specs.Lines.{Said, measure, said_text, SaidLaw}
+use Rattle.circuit_text.specs.Lines.{measure, said_text}
 use Rattle.circuit.specs.declared.stop.Stop.{Stop}
-use Rattle.circuit.specs.Lines.{LineDone, Lines, end, next, Played}
+use Rattle.circuit.specs.Lines.{LineDone, end, next, Played}
 use Rattle.circuit_run.specs.declared.report.Finish.{Finish}
 use Rattle.circuit_run.specs.Output.{output}
 use Rattle.circuit_run.specs.Runs.{opened, Tells, played}

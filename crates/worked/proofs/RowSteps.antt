@@ -1,15 +1,14 @@
 -- A measurement by the row rules is a step of a session over a tableau.
-use Rattle.std.proofs.Common.{◌≡◌, ℕ, ◌^◌, ◌<◌, Bool, List, [], ◌∷◌, ◌++◌, None, Ok, sym, refl, subst}
+use Rattle.std.proofs.Common.{◌≡◌, ℕ, ◌^◌, ◌<◌, Bool, List, [], ◌∷◌, ◌++◌, None, Ok, refl, subst}
 use Rattle.pauli.specs.declared.case.Case.{Case}
 use Rattle.pauli.specs.declared.label.Label.{Label}
 use Rattle.pauli.specs.Labels.{Within}
 use Rattle.coins.specs.Coins.{bits}
 use Rattle.phase.specs.Effects.{Effect, first_coin}
-use Rattle.phase.specs.LabelCases.{Looked}
 use Rattle.phase.proofs.Unique.{one_look}
 use Rattle.journal_lines.specs.declared.event.Event.{Event}
 use Rattle.journal_lines.specs.declared.event.Event.TheVariants.{Measurement}
-use Rattle.runs.specs.States.{State, state}
+use Rattle.runs.specs.States.{state}
 use Rattle.runs.specs.Steps.{MeasureStep}
 use Rattle.runs.specs.Refusals.{measure_refusal}
 use Rattle.tableau_laws.specs.Rules.{Rows, LawfulRows, sheet_of, look_rows, measured_rows, outcome_of}

@@ -1,5 +1,5 @@
 -- Examples worked out by the definitions that the contracts use, letter by letter and byte by byte.
-use Rattle.std.specs.Prelude.{◌≡◌, ℕ, true, false, List, [], ◌∷◌, map, length, codes}
+use Rattle.std.specs.Prelude.{◌≡◌, ℕ, false, List, [], ◌∷◌, map, length, codes}
 use Rattle.pauli.specs.declared.gate.Gate.TheVariants.{One, Cx}
 use Rattle.pauli.specs.declared.gate.OneQubit.TheVariants as Turn
 use Rattle.pauli.specs.declared.letter.Letter.{Letter}

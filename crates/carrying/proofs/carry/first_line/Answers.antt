@@ -1,4 +1,4 @@
-use Rattle.std.proofs.Common.{◌≡◌, refl, inl, inr, rules}
+use Rattle.std.proofs.Common.{refl, inl, inr}
 use Rattle.text.proofs.Places.{goes_up}
 use Rattle.carrying.specs.Lines.{Opens}
 use Rattle.carrying.proofs.Steps.{no_sign, no_letters, wide_row, row_read, is_label}

@@ -1,4 +1,4 @@
-use Rattle.std.proofs.Common.{◌≡◌, sym, refl, ◌∙◌, inl, inr, rules}
+use Rattle.std.proofs.Common.{sym, ◌∙◌, inl, inr, rules}
 use Rattle.carrying.proofs.Steps.{stops, no_gate, placed}
 use Rattle.carrying.proofs.carry.step.Goals as goal
 

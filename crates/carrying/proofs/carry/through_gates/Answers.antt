@@ -1,6 +1,5 @@
-use Rattle.std.proofs.Common.{◌≡◌, ◌+◌, List, [], ◌∷◌, ◌++◌, drop, vec_items, sym, refl, subst, arith, rules}
-use Rattle.pauli.specs.declared.row.Row.{Row}
-use Rattle.carrying.proofs.Steps.{SoFar, at_start, one_more, farther, all_done, stopped}
+use Rattle.std.proofs.Common.{◌≡◌, ◌+◌, [], ◌∷◌, ◌++◌, drop, vec_items, sym, refl, subst, arith, rules}
+use Rattle.carrying.proofs.Steps.{SoFar, one_more, farther, all_done, stopped}
 use Rattle.carrying.proofs.carry.through_gates.Goals as goal
 
 pub loop-at-smaller : goal.loop-at-smaller

@@ -1,4 +1,4 @@
-use Rattle.std.proofs.Common.{◌≡◌, ℕ, sym, refl, ap, ◌∙◌, subst, rules}
+use Rattle.std.proofs.Common.{ℕ, refl, ap, ◌∙◌, subst, rules}
 use Rattle.pauli.specs.Labels.{Within, label_text}
 use Rattle.circuit_text.specs.Lines.{said}
 use Rattle.circuit.proofs.Chains.{gate_performed, measure_done, measure_refused, conditional_done, conditional_refused, performed_stops, as_said, done_said}

@@ -1,4 +1,4 @@
-use Rattle.std.proofs.Common.{◌≡◌, ℕ, ◌+◌, ◌<◌, ◌≤◌, List, length, drop, sym, ap, ◌∙◌, subst, arith, Bor, rules}
+use Rattle.std.proofs.Common.{◌≡◌, ℕ, ◌+◌, List, length, drop, sym, ap, ◌∙◌, subst, arith, Bor, rules}
 use Rattle.session.specs.Seen.{seen}
 use Rattle.circuit.specs.Lines.{Played}
 use Rattle.circuit.proofs.Chains.{SoFar, was_done, was_ended, one_more, all_done, stopped, farther, goes_up}

@@ -1,4 +1,4 @@
-use Rattle.std.proofs.Common.{◌≡◌, ◌+◌, ◌-◌, ◌<◌, ◌≤◌, length, drop}
+use Rattle.std.proofs.Common.{◌≡◌, ◌+◌, ◌-◌, ◌≤◌, length, drop}
 use Rattle.session.specs.Seen.{seen}
 use Rattle.circuit.proofs.Chains.{SoFar}
 use Rattle.circuit.proofs.play.play.Given as goal

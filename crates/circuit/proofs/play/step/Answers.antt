@@ -1,4 +1,3 @@
-use Rattle.std.proofs.Common.{◌≡◌, refl, rules}
 use Rattle.circuit.proofs.Chains.{stop_at, next_hit}
 use Rattle.circuit.proofs.play.step.Goals as goal
 

@@ -1,4 +1,4 @@
-use Rattle.std.proofs.Common.{◌≡◌, ◌+◌, ◌<◌, ◌≤◌, length, Result, subst, arith}
+use Rattle.std.proofs.Common.{◌+◌, ◌<◌, ◌≤◌, length, Result, subst, arith}
 use Rattle.pauli.specs.declared.fault.Fault.{Fault}
 use Rattle.journal_lines.specs.declared.entry.Entry.{Entry}
 use Rattle.journal.specs.Journals.{events, Reading}

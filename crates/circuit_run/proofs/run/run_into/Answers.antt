@@ -1,4 +1,4 @@
-use Rattle.std.proofs.Common.{◌≡◌, ℕ, ◌+◌, ◌-◌, ◌≤◌, List, length, drop, Ok, Err, sym, refl, ap, ◌∙◌, subst, arith, Bor}
+use Rattle.std.proofs.Common.{◌≡◌, ℕ, ◌-◌, List, length, Ok, Err, sym, ap, ◌∙◌, subst, arith, Bor}
 use Rattle.journal_lines.specs.declared.event.Event.{Event}
 use Rattle.journal.specs.Journals.{events}
 use Rattle.runs.specs.Readings.{readings}

@@ -1,4 +1,4 @@
-use Rattle.std.proofs.Common.{◌≡◌, ℕ, ◌+◌, ap, ◌∙◌}
+use Rattle.std.proofs.Common.{ℕ, ◌+◌, ap, ◌∙◌}
 use Rattle.circuit_text.proofs.Lines.{coins_hit, body_at}
 use Rattle.circuit_text.proofs.read.coins.Goals as goal
 

@@ -1,4 +1,4 @@
-use Rattle.std.proofs.Common.{◌≡◌, ℕ, ◌+◌, drop, sym, ap, ◌∙◌}
+use Rattle.std.proofs.Common.{ℕ, ◌+◌, drop, sym, ap, ◌∙◌}
 use Rattle.text.specs.Texts.{num, Short, turn_text, Turn}
 use Rattle.text.proofs.Fields.{both_hit, both_first, both_second}
 use Rattle.text.proofs.Places.{goes_up}

@@ -1,4 +1,4 @@
-use Rattle.std.proofs.Common.{◌≡◌, ◌-◌, ◌/◌, ◌++◌, sym, refl, ap, ◌∙◌, arith}
+use Rattle.std.proofs.Common.{◌-◌, ◌/◌, ◌++◌, sym, ap, ◌∙◌, arith}
 use Rattle.std.proofs.Output.{writes_on_IsOk-append, has_written_of_eq}
 use Rattle.pauli.specs.Labels.{letters}
 use Rattle.text.proofs.Words.{letters_step}

@@ -1,4 +1,4 @@
-use Rattle.std.proofs.Common.{◌≡◌, ◌+◌, ◌-◌, sym, refl, ◌∙◌, arith}
+use Rattle.std.proofs.Common.{◌-◌, refl, arith}
 use Rattle.text.proofs.Places.{passed, miss_past}
 use Rattle.journal_lines.proofs.Coins.{hit_end, miss_end, hit_coin, miss_digit, miss_coin}
 use Rattle.journal_lines.proofs.parts.+coins.Goals as goal

@@ -1,4 +1,4 @@
-use Rattle.std.proofs.Common.{◌≡◌, sym, refl, ◌∙◌, arith}
+use Rattle.std.proofs.Common.{refl, arith}
 use Rattle.text.proofs.Places.{passed}
 use Rattle.journal_lines.proofs.Coins.{reads_some, hit_dash, miss_dash, not_dash}
 use Rattle.journal_lines.proofs.parts.coin_field.Goals as goal

@@ -1,4 +1,4 @@
-use Rattle.std.proofs.Common.{◌≡◌, refl, arith}
+use Rattle.std.proofs.Common.{refl, arith}
 use Rattle.text.proofs.Places.{passed}
 use Rattle.journal_lines.proofs.Coins.{drawn_first, drawn_many, drawn_miss, drawn_hit}
 use Rattle.journal_lines.proofs.parts.drawn.Goals as goal

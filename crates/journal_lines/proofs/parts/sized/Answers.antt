@@ -1,4 +1,4 @@
-use Rattle.std.proofs.Common.{◌≡◌, sym, refl, ◌∙◌, arith}
+use Rattle.std.proofs.Common.{refl, arith}
 use Rattle.text.proofs.Places.{passed}
 use Rattle.journal_lines.proofs.Labels.{read_never, sized_none, sized_long, sized_hit}
 use Rattle.journal_lines.proofs.parts.sized.Goals as goal

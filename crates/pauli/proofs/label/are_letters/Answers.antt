@@ -1,6 +1,6 @@
-use Rattle.std.proofs.Common.{◌≡◌, ◌+◌, Bool, true, false, ◌&&◌, length, get_or, drop, sym, ap, ◌∙◌, arith, rules}
+use Rattle.std.proofs.Common.{◌+◌, Bool, ◌&&◌, get_or, drop, sym, ap, ◌∙◌, arith, rules}
 use Rattle.std.proofs.lemmas.List.{drop_all}
-use Rattle.pauli.specs.Letters.{is_letter, all_letters}
+use Rattle.pauli.specs.Letters.{all_letters}
 use Rattle.pauli.proofs.Texts.{not_letters, letters_at, is_read}
 use Rattle.pauli.proofs.label.are_letters.Goals as goal
 

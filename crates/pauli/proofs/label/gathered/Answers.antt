@@ -1,4 +1,4 @@
-use Rattle.std.proofs.Common.{◌≡◌, ◌-◌, Bool, true, false, get_or, is_err, Ok, Err, sym, ap, ◌∙◌, arith, rules}
+use Rattle.std.proofs.Common.{◌≡◌, ◌-◌, Bool, false, get_or, is_err, Ok, Err, sym, ap, ◌∙◌, arith, rules}
 use Rattle.pauli.specs.declared.fault.Fault.{Fault}
 use Rattle.pauli.specs.declared.fault.Fault.TheVariants.{BadForm}
 use Rattle.pauli.specs.Letters.{bits_of, all_letters}

@@ -1,5 +1,5 @@
 -- One more call, and the end of the list.
-use Rattle.std.proofs.Common.{◌≡◌, ℕ, ◌+◌, ◌<◌, List, [], length, take, drop, sym, ap, ◌∙◌, subst, arith, rules}
+use Rattle.std.proofs.Common.{◌≡◌, ◌+◌, ◌<◌, length, take, drop, sym, ap, ◌∙◌, subst, arith, rules}
 use Rattle.std.proofs.lemmas.List.{get_or_default, drop-drop, drop-set-lt}
 use Rattle.runs.specs.Promises.{Played}
 use Rattle.runs.specs.States.{State}

@@ -1,5 +1,5 @@
 -- After i calls: a run of these calls and answers, and the other answers as they were.
-use Rattle.std.proofs.Common.{◌≡◌, length, take, drop}
+use Rattle.std.proofs.Common.{◌≡◌, take, drop}
 use Rattle.runs.proofs.Reached.{Reached}
 use Rattle.session.specs.Seen.{seen}
 use Rattle.session.proofs.playing.play.Given as goal

@@ -1,4 +1,4 @@
-use Rattle.std.proofs.Common.{sym, refl, ◌∙◌, arith}
+use Rattle.std.proofs.Common.{refl, arith}
 use Rattle.text.proofs.Places.{end_some, miss_past}
 use Rattle.text.proofs.Fields.{hit_byte, miss_byte}
 use Rattle.text.proofs.read.byte.Goals as goal

@@ -1,5 +1,4 @@
-use Rattle.std.proofs.Common.{◌≡◌, get_or, sym, refl, ◌∙◌, arith}
-use Rattle.text.specs.Ends.{end_byte}
+use Rattle.std.proofs.Common.{refl, ◌∙◌, arith}
 use Rattle.text.proofs.Places.{passed, present}
 use Rattle.text.proofs.Gates.{turn_hit, turn_miss, cx_name, cx_other, cx_miss, cx_hit}
 use Rattle.text.proofs.read.gate.Goals as goal

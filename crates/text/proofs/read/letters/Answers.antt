@@ -1,4 +1,4 @@
-use Rattle.std.proofs.Common.{◌≡◌, ◌-◌, ◌<◌, drop, sym, refl, ◌∙◌, arith, length-take}
+use Rattle.std.proofs.Common.{◌-◌, ◌<◌, drop, sym, refl, ◌∙◌, arith, length-take}
 use Rattle.text.specs.declared.read.Kind.TheVariants as K
 use Rattle.text.specs.Ends.{end_byte}
 use Rattle.text.specs.Texts.{Letters}

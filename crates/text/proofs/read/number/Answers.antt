@@ -1,6 +1,6 @@
-use Rattle.std.proofs.Common.{◌≡◌, refl, arith}
+use Rattle.std.proofs.Common.{refl, arith}
 use Rattle.text.proofs.Places.{end_some, end_low, miss_past}
-use Rattle.text.proofs.Numbers.{At, no_number, hit_one, hit_two, hit_three}
+use Rattle.text.proofs.Numbers.{no_number, hit_one, hit_two, hit_three}
 use Rattle.text.proofs.Numbers.At.{one, two, three}
 use Rattle.text.proofs.read.number.Goals as goal
 

@@ -1,4 +1,4 @@
-use Rattle.std.proofs.Common.{◌≡◌, ◌+◌, ◌/◌, ◌%◌, [], ◌∷◌, ◌++◌, length, sym, refl, ap, ◌∙◌, arith, length-append}
+use Rattle.std.proofs.Common.{◌+◌, ◌/◌, ◌%◌, [], ◌∷◌, length, sym, ap, ◌∙◌, arith, length-append}
 use Rattle.text.specs.Texts.{num}
 use Rattle.text.proofs.Numbers.{num_digit, num_step}
 use Rattle.text.proofs.Writing.{then, recast}

@@ -1,4 +1,4 @@
-use Rattle.std.proofs.Common.{◌∷◌, length, sym, ap, ◌∙◌, arith, length-append}
+use Rattle.std.proofs.Common.{◌∷◌, length, ap, arith, length-append}
 use Rattle.text.specs.Texts.{num, gate_text}
 use Rattle.text.proofs.write.gate_len.Goals as goal
 

@@ -4,7 +4,7 @@ use Rattle.text.specs.declared.write.Field.TheVariants.{Number}
 use Rattle.text.specs.Ends.{end_byte}
 use Rattle.text.specs.Lines.{field_text, separator, line_of}
 use Rattle.text.proofs.Lines.{line_more, line_all, length_more, separator_more, separator_all}
-use Rattle.text.proofs.Writing.{then, part_none, part_more, part_room, part_all, filled}
+use Rattle.text.proofs.Writing.{then, part_more, part_room, part_all, filled}
 use Rattle.text.proofs.write.line.Goals as goal
 use Rattle.text.proofs.write.line.Goals.{then-i-fields, else-i-fields}
 

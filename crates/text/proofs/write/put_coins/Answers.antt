@@ -1,4 +1,4 @@
-use Rattle.std.proofs.Common.{◌≡◌, ◌+◌, ◌-◌, ◌/◌, ◌%◌, ◌∷◌, sym, refl, ap, ◌∙◌, arith}
+use Rattle.std.proofs.Common.{◌≡◌, ◌+◌, ◌-◌, ◌/◌, ◌%◌, ◌∷◌, ap, ◌∙◌, arith}
 use Rattle.text.specs.Texts.{coins}
 use Rattle.text.proofs.Words.{length_coins, coins_none, coins_step}
 use Rattle.text.proofs.Writing.{part_none, part_more, part_room, part_all}

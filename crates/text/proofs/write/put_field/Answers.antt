@@ -1,4 +1,4 @@
-use Rattle.std.proofs.Common.{◌≡◌, length, sym, refl, ap, ◌∙◌, arith}
+use Rattle.std.proofs.Common.{length, sym, ap, ◌∙◌, arith}
 use Rattle.text.specs.Lines.{field_text}
 use Rattle.text.proofs.Words.{length_letters, length_coins, coin_some, coin_none}
 use Rattle.text.proofs.Writing.{recast}

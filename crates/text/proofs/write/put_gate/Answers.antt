@@ -1,4 +1,4 @@
-use Rattle.std.proofs.Common.{◌≡◌, [], ◌∷◌, ◌++◌, length, sym, refl, ap, ◌∙◌, arith, length-append}
+use Rattle.std.proofs.Common.{◌∷◌, length, sym, ap, ◌∙◌, arith, length-append}
 use Rattle.text.specs.Texts.{num, gate_text}
 use Rattle.text.proofs.Writing.{then, recast}
 use Rattle.text.proofs.write.put_gate.Goals as goal

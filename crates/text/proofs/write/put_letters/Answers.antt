@@ -1,4 +1,4 @@
-use Rattle.std.proofs.Common.{◌≡◌, ◌+◌, ◌-◌, ◌/◌, ◌∷◌, sym, refl, ap, ◌∙◌, arith}
+use Rattle.std.proofs.Common.{◌≡◌, ◌+◌, ◌-◌, ◌/◌, ◌∷◌, sym, ap, ◌∙◌, arith}
 use Rattle.pauli.specs.Labels.{letters}
 use Rattle.text.proofs.Words.{length_letters, letters_none, letters_step}
 use Rattle.text.proofs.Writing.{part_none, part_more, part_room, part_all}

@@ -1,7 +1,7 @@
-use Rattle.std.proofs.Common.{◌≡◌, ◌+◌, ◌<◌, drop, sym, refl, ap, ◌∙◌, arith}
+use Rattle.std.proofs.Common.{◌+◌, ◌<◌, drop, sym, ap, ◌∙◌, arith}
 use Rattle.std.specs.List.{slice_get}
 use Rattle.pauli.specs.declared.fault.Fault.TheVariants.{NoOutcome}
-use Rattle.journal.specs.Journals.{events, outcomes, answer, kth}
+use Rattle.journal.specs.Journals.{events, outcomes, answer}
 use Rattle.journal.proofs.Kept.{from_first, with_outcome, without_outcome, no_more, step_over}
 use Rattle.journal.proofs.journal.Journal.outcome.Goals as goal
 use Rattle.journal.proofs.journal.Journal.outcome.Goals.{in-Some+else-left-eq0, in_default}

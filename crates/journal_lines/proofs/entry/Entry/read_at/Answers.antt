@@ -1,4 +1,4 @@
-use Rattle.std.proofs.Common.{refl, ◌∙◌}
+use Rattle.std.proofs.Common.{◌∙◌}
 use Rattle.std.proofs.lemmas.Result.{err_from_is_err_and}
 use Rattle.journal_lines.proofs.Entries.{no_number, no_event, not_lawful, read_entry}
 use Rattle.journal_lines.proofs.entry.Entry.read_at.Goals as goal

@@ -1,4 +1,4 @@
-use Rattle.std.proofs.Common.{Ok, sym, refl, ap, ◌∙◌, arith}
+use Rattle.std.proofs.Common.{Ok, sym, refl, ap, ◌∙◌}
 use Rattle.std.proofs.lemmas.Result.{err_from_is_err_and}
 use Rattle.journal_lines.proofs.Entries.{whole_line, not_whole, no_whole}
 use Rattle.journal_lines.proofs.entry.Entry.read_line.Goals as goal

@@ -1,4 +1,4 @@
-use Rattle.std.proofs.Common.{◌≡◌, ℕ, ◌^◌, ◌<◌, ◌≤◌, Bool, true, false, ◌&&◌, ltb, sym, ap, ◌∙◌, ap₂, lt_of_lt_of_le, arith, pow_mono, rules, lt-ltb, eq-eqb, ne_eqb, le-leb}
+use Rattle.std.proofs.Common.{◌≡◌, ◌^◌, ◌<◌, ◌≤◌, Bool, true, false, ◌&&◌, ltb, sym, ap, ◌∙◌, ap₂, lt_of_lt_of_le, pow_mono, rules, lt-ltb, eq-eqb, ne_eqb, le-leb}
 use Rattle.pauli.specs.Labels.{fits}
 use Rattle.pauli.proofs.Words.{below_shift}
 use Rattle.pauli.proofs.label.Label.fits.Goals as goal

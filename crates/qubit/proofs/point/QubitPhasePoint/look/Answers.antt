@@ -1,5 +1,5 @@
 -- A look at a letter.
-use Rattle.std.proofs.Common.{◌≡◌, ℕ, sym, ap, ◌∙◌, subst}
+use Rattle.std.proofs.Common.{ℕ, sym, ap, ◌∙◌, subst}
 use Rattle.pauli.specs.declared.case.Case.{Case}
 use Rattle.pauli.specs.declared.letter.Letter.{Letter}
 use Rattle.phase.specs.LabelCases.{Looked}

@@ -1,5 +1,5 @@
 -- A size from 1 to 64 leaves only the qubits to refuse.
-use Rattle.std.proofs.Common.{◌≡◌, Some, None, sym, ap, ◌∙◌, rules}
+use Rattle.std.proofs.Common.{◌≡◌, None, sym, ap, ◌∙◌, rules}
 use Rattle.pauli.specs.Gates.{gate_fault, placing_fault}
 use Rattle.session.proofs.Lawful.{placing, accepted_placeable}
 use Rattle.session.proofs.session.Session.check.Goals as goal

@@ -1,10 +1,9 @@
 -- Too few coins change nothing; what is recorded is lawful; and what the point did is what the look foretold.
-use Rattle.std.proofs.Common.{◌≡◌, ℕ, ◌<◌, true, List, [], ◌∷◌, ◌++◌, length, sym, refl, ap, ◌∙◌, subst, inr, rules}
+use Rattle.std.proofs.Common.{◌≡◌, ◌<◌, true, [], ◌∷◌, ◌++◌, length, sym, refl, ap, ◌∙◌, subst, inr, rules}
 use Rattle.pauli.specs.Labels.{fits}
 use Rattle.journal_lines.specs.declared.event.Event.TheVariants as E
 use Rattle.journal_lines.specs.Lawful.{measured_ok}
 use Rattle.journal.specs.Journals.{events}
-use Rattle.session.specs.declared.session.Session.{Session}
 use Rattle.session.specs.Seen.{seen}
 use Rattle.session.proofs.Lawful.{allowed, too_few, as_looked, measured_right}
 use Rattle.session.proofs.session.Session.measure.Goals as goal

@@ -1,5 +1,5 @@
 -- A reading is the line of the entry.
-use Rattle.std.proofs.Common.{◌≡◌, subst}
+use Rattle.std.proofs.Common.{subst}
 use Rattle.std.proofs.lemmas.Result.{err_from_is_err_and}
 use Rattle.text.specs.Lines.{Filled}
 use Rattle.journal_lines.specs.Lines.{line}

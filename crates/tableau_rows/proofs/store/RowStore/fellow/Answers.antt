@@ -1,4 +1,4 @@
-use Rattle.std.proofs.Common.{◌≡◌, true, false, sym, ◌∙◌}
+use Rattle.std.proofs.Common.{true, false, sym, ◌∙◌}
 use Rattle.tableau_rows.specs.Held.{J_of}
 use Rattle.tableau_rows.proofs.Passes.{fellow_more}
 use Rattle.tableau_rows.proofs.store.RowStore.fellow.Goals as goal

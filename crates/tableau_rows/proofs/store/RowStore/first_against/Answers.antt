@@ -1,4 +1,4 @@
-use Rattle.std.proofs.Common.{◌≡◌, ◌-◌, ◌<◌, sym, ◌∙◌, arith}
+use Rattle.std.proofs.Common.{◌-◌, ◌<◌, sym, ◌∙◌, arith}
 use Rattle.tableau_laws.specs.Rules.{against_b}
 use Rattle.tableau_rows.specs.Held.{E_of}
 use Rattle.tableau_rows.proofs.Counted.{nth_first, count_none}

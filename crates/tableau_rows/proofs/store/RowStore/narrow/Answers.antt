@@ -1,5 +1,4 @@
-use Rattle.std.proofs.Common.{◌≡◌, ◌-◌, ◌/◌, ◌<◌, length, refl, ap, ◌∙◌, arith, rules}
-use Rattle.pauli.specs.declared.row.Row.{Row}
+use Rattle.std.proofs.Common.{◌-◌, ◌/◌, ◌<◌, length, refl, ap, ◌∙◌, arith}
 use Rattle.pauli.specs.Rows.{row, times}
 use Rattle.tableau_rows.proofs.Narrow.{three_from}
 use Rattle.tableau_rows.proofs.store.RowStore.narrow.Goals as goal

@@ -1,4 +1,4 @@
-use Rattle.std.proofs.Common.{◌≡◌, true, false, sym, ap, ◌∙◌}
+use Rattle.std.proofs.Common.{true, false, sym, ap, ◌∙◌}
 use Rattle.pauli.specs.declared.row.Row.{Row}
 use Rattle.pauli.specs.Rows.{times}
 use Rattle.tableau_rows.specs.Held.{D_of, E_of}

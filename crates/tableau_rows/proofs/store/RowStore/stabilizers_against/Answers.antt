@@ -1,4 +1,4 @@
-use Rattle.std.proofs.Common.{◌≡◌, ◌≤◌, true, false, sym, arith, rules}
+use Rattle.std.proofs.Common.{◌≤◌, true, false, sym, arith, rules}
 use Rattle.tableau_laws.specs.Tableaux.{labels}
 use Rattle.tableau_rows.specs.Held.{E_of}
 use Rattle.tableau_rows.proofs.Passes.{against_more, against_at_most}

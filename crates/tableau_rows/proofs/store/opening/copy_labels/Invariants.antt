@@ -1,4 +1,4 @@
-use Rattle.std.proofs.Common.{◌≡◌, ℕ, ◌+◌, ◌<◌}
+use Rattle.std.proofs.Common.{◌≡◌, ℕ, ◌<◌}
 use Rattle.tableau_rows.specs.Parts.{row_in, label_in}
 use Rattle.tableau_rows.proofs.store.opening.copy_labels.Given as goal
 

@@ -1,5 +1,5 @@
 use Rattle.std.proofs.Common.{◌≡◌, ℕ, ◌+◌, ◌<◌}
-use Rattle.tableau_rows.specs.Parts.{row_in, label_in}
+use Rattle.tableau_rows.specs.Parts.{row_in}
 use Rattle.tableau_rows.proofs.store.opening.copy_rows.Given as goal
 
 abbrev pub invariant-loop-i : goal.invariant-loop-i

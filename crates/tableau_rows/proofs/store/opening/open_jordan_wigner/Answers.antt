@@ -1,4 +1,4 @@
-use Rattle.std.proofs.Common.{◌≡◌, ℕ, ◌+◌, ◌*◌, ◌%◌, ◌^◌, ◌<◌, false, length, set, sym, ap, ◌∙◌, arith, length-set}
+use Rattle.std.proofs.Common.{◌≡◌, ℕ, ◌+◌, ◌*◌, ◌%◌, ◌^◌, ◌<◌, false, length, set, ap, ◌∙◌, arith, length-set}
 use Rattle.pauli.specs.declared.row.Row.{Row}
 use Rattle.pauli.specs.Rows.{row, zero_row}
 use Rattle.tableau_laws.specs.Opening.{open_J}

@@ -1,4 +1,4 @@
-use Rattle.std.proofs.Common.{◌≡◌, ◌<◌, length, sym, ap, ◌∙◌, arith, rules}
+use Rattle.std.proofs.Common.{ap, arith}
 use Rattle.pauli.specs.Gates.{moved}
 use Rattle.pauli.specs.Labels.{zero_label}
 use Rattle.tableau_rows.proofs.Passes.{changed_none, changed_more}

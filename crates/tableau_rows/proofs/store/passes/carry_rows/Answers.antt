@@ -1,4 +1,4 @@
-use Rattle.std.proofs.Common.{◌≡◌, ◌<◌, length, sym, ap, ◌∙◌, arith, rules}
+use Rattle.std.proofs.Common.{arith}
 use Rattle.pauli.specs.Gates.{carry}
 use Rattle.pauli.specs.Rows.{zero_row}
 use Rattle.tableau_rows.proofs.Passes.{changed_none, changed_more}

@@ -1,5 +1,4 @@
-use Rattle.std.proofs.Common.{◌≡◌, ◌<◌, Bool, cond, length, get_or, sym, ap, ◌∙◌, arith, rules}
-use Rattle.pauli.specs.declared.label.Label.{Label}
+use Rattle.std.proofs.Common.{◌≡◌, Bool, cond, get_or, ap, ◌∙◌, arith}
 use Rattle.pauli.specs.Labels.{plus}
 use Rattle.tableau_laws.specs.Rules.{cleared}
 use Rattle.pauli.specs.Labels.{zero_label}

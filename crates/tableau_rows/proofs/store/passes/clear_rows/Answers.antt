@@ -1,5 +1,4 @@
-use Rattle.std.proofs.Common.{◌≡◌, ◌<◌, Bool, cond, length, get_or, sym, ap, ◌∙◌, arith, rules}
-use Rattle.pauli.specs.declared.row.Row.{Row}
+use Rattle.std.proofs.Common.{◌≡◌, Bool, cond, get_or, ap, ◌∙◌, arith}
 use Rattle.pauli.specs.Rows.{times}
 use Rattle.tableau_laws.specs.Rules.{cleared_row}
 use Rattle.pauli.specs.Rows.{zero_row}

@@ -1,4 +1,4 @@
-use Rattle.std.proofs.Common.{ℕ, ◌+◌, Bool, not, ◌&&◌, ◌||◌, ltb, sym, ap, arith}
+use Rattle.std.proofs.Common.{ℕ, ◌+◌, Bool, not, ◌&&◌, ◌||◌, ltb, sym, ap}
 use Rattle.tableau_rows.specs.Parts.{row_in}
 use Rattle.tableau_rows.proofs.Counted.{all_more, all_not}
 use Rattle.tableau_rows.proofs.store.pattern.signs_ok.Goals as goal
