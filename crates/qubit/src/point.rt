@@ -139,6 +139,7 @@ impl PhasePoint for Qubit {
         Ok(kind(b.letter(1)?))
     }
 
+    #[tactic(auto, using(crate::proofs::Tosses::with_coin, crate::proofs::Tosses::without_coin))]
     fn measure(&mut self, b: Label, sign: bool, coins: u64) -> Result<bool, Fault> {
         if !b.fits(SIZE) {
             return Err(Fault::BadLabel);
