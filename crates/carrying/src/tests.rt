@@ -2,13 +2,17 @@
 use crate::carry::carry;
 use crate::report::Ending;
 use pauli::fault::Fault;
-use std::alloc::{AllocError, Global};
 use std::test::Fail;
 
-// Whether a text comes to so many rows and to this ending.
-fn ends(alloc: Global, text: &[u8], rows: usize, ending: Ending) -> Result<bool, AllocError> {
-    let report = carry(alloc, text)?;
-    Ok(report.rows.len() == rows && report.ending == ending)
+fn check_ending(rt: &HostRuntime, text: &[u8], rows: usize, ending: Ending) -> Result<(), Fail> {
+    let report = carry(rt.alloc(), text)?;
+    if report.rows.len() != rows {
+        return Err(Fail::new("another number of rows"));
+    }
+    if report.ending != ending {
+        return Err(Fail::new("another ending"));
+    }
+    Ok(())
 }
 
 fn refused(line: u32, fault: Fault) -> Ending {
@@ -17,33 +21,17 @@ fn refused(line: u32, fault: Fault) -> Ending {
 
 #[test]
 fn texts_end_at_their_end(rt: HostRuntime) -> Result<(), Fail> {
-    assert!(rt; ends(rt.alloc(), b"+,XZ\nG,CX,1,2\nG,H,1\n", 2, Ending::Done)?);
-    assert!(rt; ends(rt.alloc(), b"-,Y\n", 0, Ending::Done)?);
-    Ok(())
+    check_ending(&rt, b"+,XZ\nG,CX,1,2\nG,H,1\n", 2, Ending::Done)?;
+    check_ending(&rt, b"-,Y\n", 0, Ending::Done)
 }
 
 #[test]
 fn texts_end_at_the_line_refused(rt: HostRuntime) -> Result<(), Fail> {
-    assert!(rt; ends(rt.alloc(), b"", 0, refused(0, Fault::TextEnded))?);
-    assert!(rt; ends(rt.alloc(), b"+,\n", 0, refused(1, Fault::BadForm))?);
-    assert!(rt; ends(rt.alloc(), b"+,XZ", 0, refused(1, Fault::BadForm))?);
-    assert!(rt; ends(rt.alloc(), &[b'I'; 40000], 0, refused(0, Fault::BadForm))?);
-    assert!(rt;
-        ends(
-            rt.alloc(),
-            b"+,XZ\nG,H,1\nG,H,3\n",
-            1,
-            refused(3, Fault::BadQubit)
-        )?
-    );
-    assert!(rt;
-        ends(
-            rt.alloc(),
-            b"+,XZ\nG,CX,2,2\n",
-            0,
-            refused(2, Fault::SameQubit)
-        )?
-    );
-    assert!(rt; ends(rt.alloc(), b"+,XZ\nG,H,01\n", 0, refused(2, Fault::BadForm))?);
-    Ok(())
+    check_ending(&rt, b"", 0, refused(0, Fault::TextEnded))?;
+    check_ending(&rt, b"+,\n", 0, refused(1, Fault::BadForm))?;
+    check_ending(&rt, b"+,XZ", 0, refused(1, Fault::BadForm))?;
+    check_ending(&rt, &[b'I'; 40000], 0, refused(0, Fault::BadForm))?;
+    check_ending(&rt, b"+,XZ\nG,H,1\nG,H,3\n", 1, refused(3, Fault::BadQubit))?;
+    check_ending(&rt, b"+,XZ\nG,CX,2,2\n", 0, refused(2, Fault::SameQubit))?;
+    check_ending(&rt, b"+,XZ\nG,H,01\n", 0, refused(2, Fault::BadForm))
 }
