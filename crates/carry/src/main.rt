@@ -2,17 +2,15 @@
 #![tactic(auto)]
 
 use carrying::carry::carry;
-use carrying::report::Ending;
 use carrying::rows::row_line;
 use pauli::row::Row;
 use std::io;
 use std::io::{Read, Write};
+use text::limits::ENOUGH;
+use text::stop::Stop;
 
 // The longest line of a row: a sign, a comma, 64 letters and a line feed.
 const LINE: usize = 67;
-
-// One byte more than a text may have, so that a text that is too long is seen to be.
-const ENOUGH: u64 = 32769;
 
 fn show_row(rt: &HostRuntime, size: u32, row: Row) -> io::Result<()> {
     let mut page = [0u8; LINE];
@@ -30,11 +28,11 @@ fn main(rt: HostRuntime) -> anyhow::Result<()> {
         show_row(&rt, report.size, *row)?;
     }
     match report.ending {
-        Ending::Done => {
+        Ok(()) => {
             let gates = report.rows.len();
             println!(rt; "E,{gates}")?
         }
-        Ending::Refused { line, fault } => {
+        Err(Stop { line, fault }) => {
             let number = fault.number();
             println!(rt; "R,{line},{number}")?
         }

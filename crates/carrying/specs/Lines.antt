@@ -1,5 +1,6 @@
 -- What the readers of single lines answer.
-use Rattle.std.specs.Prelude.{◌≡◌, ℕ, ◌<◌, ◌≤◌, Bool, true, ◌⊎◌, List, ◌∷◌, length, drop, Some, None, Ok, Err, Result}
+use Rattle.std.specs.Prelude.{◌≡◌, ℕ, ◌<◌, ◌≤◌, Bool, true, ◌⊎◌, List, [], ◌∷◌, length, drop, Some, None, Ok, Err, Result}
+use Rattle.std.specs.Borrow.{Bor}
 use Rattle.pauli.specs.declared.fault.Fault.{Fault}
 use Rattle.pauli.specs.declared.fault.Fault.TheVariants.{BadForm, BadSize}
 use Rattle.pauli.specs.declared.gate.Gate.{Gate}
@@ -7,7 +8,9 @@ use Rattle.pauli.specs.declared.row.Row.{Row}
 use Rattle.pauli.specs.Gates.{carry, gate_fault}
 use Rattle.pauli.specs.Labels.{Within, size_ok}
 use Rattle.text.specs.Texts.{gate_text, Gated, Letters}
-use Rattle.carrying.specs.Carrying.{first_line, row_line, gate_line, NoRow, NoGate}
+use Rattle.text.specs.declared.stop.Stop.{Stop}
+use Rattle.carrying.specs.declared.carry.Carrier.{Carrier}
+use Rattle.carrying.specs.Carrying.{first_line, row_line, gate_line, NoRow, NoGate, Carried}
 
 -- a gate's line up to the line feed
 abbrev pub gate_mark : Gate → List ℕ
@@ -28,9 +31,15 @@ pub record RowRead (t : List ℕ) (n : ℕ) (r : Row) (to : ℕ) : Type 0 where
   pub inside : to ≤ length t
   pub is : t ≡ row_line n r (drop to t)
 
-abbrev pub Opens : List ℕ → Result (ℕ × Row × ℕ) Fault → Type 0
-Opens t (Ok p) = RowRead t p.0 p.1 p.2
-Opens t (Err f) = ((f ≡ BadForm) × NoRow t) ⊎ ((f ≡ BadSize) × WideRow t)
+-- the first line is looked for, and then the lines after it are left
+abbrev pub Opens : Bor (List ℕ) → Result Carrier Fault → Type 0
+Opens x (Ok c) = (c.lines.text ≡ x) × RowRead x.now c.size c.row c.lines.at
+Opens x (Err f) = ((f ≡ BadForm) × NoRow x.now) ⊎ ((f ≡ BadSize) × WideRow x.now)
+
+-- the same of any text: one that gives no row is carried to its end at once
+abbrev pub Starts : Bor (List ℕ) → Result Carrier Stop → Type 0
+Starts x (Ok c) = (length x.now ≤ 32768) × (c.lines.text ≡ x) × RowRead x.now c.size c.row c.lines.at
+Starts x (Err e) = Carried x.now 0 [] (Err e)
 
 -- a gate's line stands at the place, and the row is carried through the gate
 pub record GateTaken (n : ℕ) (r : Row) (t : List ℕ) (at to : ℕ) (r' : Row) : Type 0 where
@@ -48,6 +57,8 @@ pub record GateRefused (n : ℕ) (t : List ℕ) (at : ℕ) (f : Fault) : Type 0 
   pub is : drop at t ≡ gate_line gate rest
   pub refused : gate_fault n gate ≡ Some f
 
-abbrev pub Steps : ℕ → Row → List ℕ → ℕ → Result ℕ Fault → Row → Type 0
-Steps n r t at (Ok to) r' = GateTaken n r t at to r'
-Steps n r t at (Err f) r' = ((f ≡ BadForm) × NoGate (drop at t)) ⊎ GateRefused n t at f
+abbrev pub Steps : (old : Carrier) → Result Unit Fault → (new : Carrier) → Type 0
+Steps old (Ok done) new =
+    (new.size ≡ old.size) × (new.lines.text ≡ old.lines.text) × GateTaken old.size old.row old.lines.text.now old.lines.at new.lines.at new.row
+Steps old (Err f) new =
+    ((f ≡ BadForm) × NoGate (drop old.lines.at old.lines.text.now)) ⊎ GateRefused old.size old.lines.text.now old.lines.at f

@@ -1,102 +1,117 @@
 // The text's lines, in order.
-ghost use Rattle.std.specs.Prelude.{◌≡◌, ℕ, ◌<◌, ◌≤◌, true, length, drop, is_err, IfOk};
+ghost use Rattle.std.specs.Prelude.{◌≡◌, ◌≤◌, true, length, drop, is_err, IfOk};
 ghost use Rattle.text.specs.Reading.{Reads};
 ghost use Rattle.text.specs.Texts.{Gated};
 ghost use Rattle.carrying.specs.Carrying.{Gates, Carried};
-ghost use Rattle.carrying.specs.Lines.{gate_mark, Opens, Steps};
+ghost use Rattle.carrying.specs.Lines.{gate_mark, Opens, Starts, Steps};
 
-use crate::report::{Ending, Report};
+use crate::report::Report;
 use pauli::fault::Fault;
 use pauli::gate::Gate;
 use pauli::label::Label;
 use pauli::row::Row;
 use std::alloc::{AllocError, Global};
 use text::end::End;
-use text::read;
+use text::limits::MOST_BYTES;
+use text::read::Fields;
+use text::stop::{Stop, at};
 
-// The most bytes that a text has.
-const LIMIT: usize = 32768;
-
-// The first line: the row, how many qubits it has, and the place of the next line.
-fn first_line(text: &[u8]) -> Result<(u32, Row, usize), Fault>
-    ensures { Opens text.now result }
-{
-    let (sign, at) = read::sign(text, 0, End::Comma)?;
-    let (letters, at) = read::letters(text, at, End::LineFeed)?;
-    if letters.len() > 64 {
-        return Err(Fault::BadSize);
-    }
-    let size = letters.len() as u32;
-    let label = Label::from_letters(size, letters)?;
-    Ok((size, Row { label, sign }, at))
+// A row of `size` qubits, and the lines of gates that are left for it.
+#[derive(Clone, Copy)]
+struct Carrier<'a> {
+    size: u32,
+    row: Row,
+    lines: Fields<'a>,
 }
 
-// A gate's line.
-fn gate_line(text: &[u8], at: usize) -> Result<(Gate, usize), Fault>
-    ensures { Reads gate_mark Gated 10 text.now at result }
+impl<'a> Carrier<'a> {
+    // What the first line of a text says.
+    fn of(text: &'a [u8]) -> Result<Carrier<'a>, Fault>
+        ensures { Opens text.entry result }
+    {
+        let mut lines = Fields { text, at: 0 };
+        let sign = lines.sign(End::Comma)?;
+        let letters = lines.letters(End::LineFeed)?;
+        if letters.len() > 64 {
+            return Err(Fault::BadSize);
+        }
+        let size = letters.len() as u32;
+        let label = Label::from_letters(size, letters)?;
+        let row = Row { label, sign };
+        Ok(Carrier { size, row, lines })
+    }
+
+    // Carries the row through the gate of the next line.
+    fn step(&mut self) -> Result<(), Fault>
+        requires { (1 ≤ self.old.size) × (self.old.size ≤ 64) }
+        ensures done { Steps self.old result self.new }
+        ensures kept { is_err result ≡ true → self.new.row ≡ self.old.row }
+    {
+        let gate = gate_line(&mut self.lines)?;
+        self.row.apply(self.size, gate)
+    }
+}
+
+// A gate's line. (In a circuit the kind of the line is read first, since others begin there too.)
+fn gate_line(line: &mut Fields) -> Result<Gate, Fault>
+    ensures { Reads gate_mark Gated 10 line.old result line.new }
 {
-    let (kind, at) = read::byte(text, at, End::Comma)?;
-    if kind != b'G' {
+    let mut fields = *line;
+    if fields.byte(End::Comma)? != b'G' {
         return Err(Fault::BadForm);
     }
-    read::gate(text, at, End::LineFeed)
+    let gate = fields.gate(End::LineFeed)?;
+    *line = fields;
+    Ok(gate)
 }
 
-// Carries the row through the gate at a place, and answers the place of the next line.
-fn step(size: u32, row: &mut Row, text: &[u8], at: usize) -> Result<usize, Fault>
-    requires { (1 ≤ size) × (size ≤ 64) }
-    ensures done { Steps size row.old text.now at result row.new }
-    ensures kept { is_err result ≡ true → row.new ≡ row.old }
+// The row of a text's first line. The text's size is looked at before that; line 0 stands for the text as a whole.
+fn start(text: &[u8]) -> Result<Carrier<'_>, Stop>
+    ensures { Starts text.entry result }
 {
-    let (gate, to) = gate_line(text, at)?;
-    row.apply(size, gate)?;
-    Ok(to)
+    if text.len() > MOST_BYTES {
+        return Err(Stop {
+            line: 0,
+            fault: Fault::BadForm,
+        });
+    }
+    if text.is_empty() {
+        return Err(Stop {
+            line: 0,
+            fault: Fault::TextEnded,
+        });
+    }
+    at(1, Carrier::of(text))
 }
 
 // Carries the row that the first line names through the gates of the other lines, up to the text's end or the first line refused.
 pub fn carry(heap: Global, text: &[u8]) -> Result<Report, AllocError>
     ensures { IfOk result (λ p. Carried text.now p.size p.rows.items p.ending) }
 {
-    if text.len() > LIMIT {
-        return Ok(Report::refused(heap, 0, Fault::BadForm));
-    }
-    if text.is_empty() {
-        return Ok(Report::refused(heap, 0, Fault::TextEnded));
-    }
-    match first_line(text) {
-        Ok((size, row, at)) => through_gates(heap, size, row, text, at),
-        Err(fault) => Ok(Report::refused(heap, 1, fault)),
+    match start(text) {
+        Ok(carrier) => through_gates(heap, carrier),
+        Err(stop) => Ok(Report::refused(heap, stop)),
     }
 }
 
-// The lines from a place on, line 2 being the first of them.
-fn through_gates(
-    heap: Global,
-    size: u32,
-    start: Row,
-    text: &[u8],
-    from: usize,
-) -> Result<Report, AllocError>
-    requires { (1 ≤ size) × ((size ≤ 64) × ((from ≤ length text.now) × (length text.now ≤ 32768))) }
-    ensures { IfOk result (λ p. (p.size ≡ size) × Gates size start 2 (drop from text.now) p.rows.items p.ending) }
+// The lines that are left, line 2 being the first of them.
+fn through_gates(heap: Global, start: Carrier) -> Result<Report, AllocError>
+    requires { (1 ≤ start.size) × ((start.size ≤ 64) × ((start.lines.at ≤ length start.lines.text.now) × (length start.lines.text.now ≤ 32768))) }
+    ensures { IfOk result (λ p. (p.size ≡ start.entry.size) × Gates start.entry.size start.entry.row 2 (drop start.entry.lines.at start.entry.lines.text.now) p.rows.items p.ending) }
 {
+    let size = start.size;
     let mut rows = Vec::new(heap);
-    let mut row = start;
-    let mut at = from;
+    let mut carrier = start;
     let mut line = 2;
-    while at < text.len() {
-        match step(size, &mut row, text, at) {
-            Ok(to) => {
-                rows.push(row)?;
-                at = to;
-                line += 1;
-            }
-            Err(fault) => {
-                let ending = Ending::Refused { line, fault };
-                return Ok(Report { size, rows, ending });
-            }
+    // The reader moves on by itself; `line` counts for the reports.
+    while carrier.lines.at < carrier.lines.text.len() {
+        if let Err(fault) = carrier.step() {
+            let ending = Err(Stop { line, fault });
+            return Ok(Report { size, rows, ending });
         }
+        rows.push(carrier.row)?;
+        line += 1;
     }
-    let ending = Ending::Done;
+    let ending = Ok(());
     Ok(Report { size, rows, ending })
 }

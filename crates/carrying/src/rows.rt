@@ -8,6 +8,8 @@ use pauli::row::Row;
 use text::write;
 use text::write::Field;
 
+// The size stands beside the row, since a label does not know of how many qubits it is.
+
 // Writes the line of a row of `size` qubits into the start of a buffer, and answers its length.
 pub fn row_line(size: u32, row: Row, out: &mut [u8]) -> Result<usize, Fault>
     ensures line { Filled (row_line size row []) out.old out.new result }

@@ -1,10 +1,15 @@
 // Texts that end well, and each refusal with its line.
 use crate::carry::carry;
-use crate::report::Ending;
 use pauli::fault::Fault;
 use std::test::Fail;
+use text::stop::Stop;
 
-fn check_ending(rt: &HostRuntime, text: &[u8], rows: usize, ending: Ending) -> Result<(), Fail> {
+fn check_ending(
+    rt: &HostRuntime,
+    text: &[u8],
+    rows: usize,
+    ending: Result<(), Stop>,
+) -> Result<(), Fail> {
     let report = carry(rt.alloc(), text)?;
     if report.rows.len() != rows {
         return Err(Fail::new("another number of rows"));
@@ -15,14 +20,14 @@ fn check_ending(rt: &HostRuntime, text: &[u8], rows: usize, ending: Ending) -> R
     Ok(())
 }
 
-fn refused(line: u32, fault: Fault) -> Ending {
-    Ending::Refused { line, fault }
+fn refused(line: usize, fault: Fault) -> Result<(), Stop> {
+    Err(Stop { line, fault })
 }
 
 #[test]
 fn texts_end_at_their_end(rt: HostRuntime) -> Result<(), Fail> {
-    check_ending(&rt, b"+,XZ\nG,CX,1,2\nG,H,1\n", 2, Ending::Done)?;
-    check_ending(&rt, b"-,Y\n", 0, Ending::Done)
+    check_ending(&rt, b"+,XZ\nG,CX,1,2\nG,H,1\n", 2, Ok(()))?;
+    check_ending(&rt, b"-,Y\n", 0, Ok(()))
 }
 
 #[test]

@@ -1,23 +1,19 @@
 -- The lines of a circuit after the first two, played to a session in their order.
-use Rattle.std.specs.Prelude.{◌≡◌, ℕ, ◌+◌, ◌<◌, ◌≤◌, Bool, true, false, ◌≢◌, ◌⊎◌, List, [], ◌∷◌, ◌++◌, length, Some, Ok, Err, Result}
+use Rattle.std.specs.Prelude.{◌≡◌, ℕ, ◌+◌, ◌≢◌, ◌⊎◌, List, [], ◌∷◌, ◌++◌, Some, Ok, Err, Result}
 use Rattle.pauli.specs.declared.fault.Fault.{Fault}
 use Rattle.pauli.specs.declared.fault.Fault.TheVariants.{BadForm}
 use Rattle.pauli.specs.declared.label.Label.{Label}
 use Rattle.pauli.specs.Labels.{Within, label_text, reading_fault}
 use Rattle.phase.specs.Sheets.{Lawful}
 use Rattle.runs.specs.declared.answer.Answer.{Answer}
-use Rattle.runs.specs.declared.answer.Answer.TheVariants.{Done, PassedOver, Outcome, Size, Width, Value, Line, Refused}
 use Rattle.runs.specs.declared.call.Call.{Call}
 use Rattle.runs.specs.declared.call.Call.TheVariants as Ask
 use Rattle.runs.specs.Promises.{Moment}
 use Rattle.runs.specs.States.{State}
 use Rattle.runs.specs.Steps.{Step}
-use Rattle.text.specs.Reading.{Hit, Miss}
 use Rattle.circuit_text.specs.Lines.{Said, gate, measure, conditional, said_text, SaidLaw}
-use Rattle.circuit.specs.declared.stop.Stop.{Stop}
-
-abbrev pub stop : ℕ → Fault → Stop
-stop k f = record { line = k; fault = f }
+use Rattle.text.specs.declared.stop.Stop.{Stop}
+use Rattle.text.specs.Stops.{stop}
 
 -- the call that a line asks of a session of n qubits, or why its letters are refused
 abbrev pub Asks : ℕ → Said → Result Call Fault → Type 0
@@ -28,40 +24,20 @@ Asks n (measure s l) (Err f) = reading_fault n l ≡ Some f
 Asks n (conditional k g q) (Ok c) = c ≡ Ask.Conditional k g q
 Asks n (conditional k g q) (Err f) = ⊥
 
--- a call's answer that is no refusal
-abbrev pub Accepted : Answer → Type 0
-Accepted Done = Unit {0}
-Accepted PassedOver = Unit {0}
-Accepted (Outcome o) = Unit {0}
-Accepted (Size n) = Unit {0}
-Accepted (Width w) = Unit {0}
-Accepted (Value v) = Unit {0}
-Accepted (Line l) = Unit {0}
-Accepted (Refused f) = ⊥
-
 -- one line done: its call was made and accepted
 pub record LineDone (s : State) (x : Said) (t : State) : Type 0 where
   pub call : Call
   pub answer : Answer
   pub asked : Asks s.sheet.n x (Ok call)
-  pub accepted : Accepted answer
-  pub step : Step s call answer t
+  pub step : Step s call (Ok answer) t
 
 -- or refused: by its letters, or by the session
 abbrev pub LineRefused : State → Said → Fault → Type 0
-LineRefused s x f = Asks s.sheet.n x (Err f) ⊎ ((c : Call) × Asks s.sheet.n x (Ok c) × Step s c (Refused f) s)
+LineRefused s x f = Asks s.sheet.n x (Err f) ⊎ ((c : Call) × Asks s.sheet.n x (Ok c) × Step s c (Err f) s)
 
 abbrev pub Performed : State → Said → Result Unit Fault → State → Type 0
 Performed s x (Ok done) t = LineDone s x t
 Performed s x (Err f) t = LineRefused s x f × (t ≡ s)
-
--- the line of number k, looked for at a place of the text: it is done and the next begins at `to`; or the text has ended; or the line is refused
-abbrev pub OneLine : State → ℕ → List ℕ → ℕ → Result Bool Stop → State → ℕ → Type 0
-OneLine s k t at (Ok true) u to = (x : Said) × Hit said_text SaidLaw 10 t at x to × LineDone s x u
-OneLine s k t at (Ok false) u to = (length t ≤ at) × (u ≡ s)
-OneLine s k t at (Err e) u to =
-    (u ≡ s) × (((e ≡ stop k BadForm) × (at < length t) × Miss said_text SaidLaw 10 t at)
-    ⊎ ((x : Said) × (f : Fault) × (e ≡ stop k f) × Hit said_text SaidLaw 10 t at x to × LineRefused s x f))
 
 -- a text of lines, from a state s on, where the next line is line k: the calls accepted with their answers, the state after them, and how it
 -- ended, at the text's end or at a line refused
@@ -69,7 +45,7 @@ pub data Lines : State → ℕ → List ℕ → List Moment → State → Result
   end : (s : State) (k : ℕ) → Lines s k [] [] s (Ok tt)
   next : (s : State) (k : ℕ) (x : Said) (rest : List ℕ) (t : State) (ms : List Moment) (u : State) (r : Result Unit Stop)
       → Lawful s.sheet → SaidLaw x → (d : LineDone s x t) → Lines t (k + 1) rest ms u r
-      → Lines s k (said_text x ++ 10 ∷ rest) (record { call = d.call; answer = d.answer; after = t } ∷ ms) u r
+      → Lines s k (said_text x ++ 10 ∷ rest) (record { call = d.call; answer = Ok d.answer; after = t } ∷ ms) u r
   not_a_line : (s : State) (k : ℕ) (t : List ℕ) → t ≢ [] → ((x : Said) (rest : List ℕ) → SaidLaw x → t ≢ said_text x ++ 10 ∷ rest)
       → Lines s k t [] s (Err (stop k BadForm))
   refused : (s : State) (k : ℕ) (x : Said) (rest : List ℕ) (f : Fault) → SaidLaw x → LineRefused s x f

@@ -2,9 +2,8 @@
 ghost use Rattle.std.specs.Prelude.{◌≡◌, true, drop, is_err};
 ghost use Rattle.circuit_text.specs.Lines.{said};
 ghost use Rattle.session.specs.Seen.{seen};
-ghost use Rattle.circuit.specs.Lines.{Performed, OneLine, Played};
+ghost use Rattle.circuit.specs.Lines.{Performed, Played};
 
-use crate::stop::{Stop, at};
 use circuit_text::line::Line;
 use circuit_text::reader::Reader;
 use coins::source::CoinSource;
@@ -12,6 +11,7 @@ use pauli::fault::Fault;
 use pauli::label::Label;
 use phase::point::PhasePoint;
 use session::session::Session;
+use text::stop::{Stop, at};
 
 // Makes the call that a line asks for.
 fn perform<P: PhasePoint, S: CoinSource>(
@@ -39,31 +39,17 @@ fn perform<P: PhasePoint, S: CoinSource>(
     }
 }
 
-// Performs the next line, the one of that number; false at the end of the text.
-fn step<P: PhasePoint, S: CoinSource>(
-    session: &mut Session<P, S>,
-    reader: &mut Reader,
-    line: usize,
-) -> Result<bool, Stop>
-    ensures text { reader.new.text ≡ reader.old.text }
-    ensures done { OneLine (seen P.ValueSheet.sheet S.coins session.old) line reader.old.text.now reader.old.at result (seen P.ValueSheet.sheet S.coins session.new) reader.new.at }
-{
-    let Some(next) = at(line, reader.next())? else {
-        return Ok(false);
-    };
-    at(line, perform(session, next))?;
-    Ok(true)
-}
-
 // Plays the lines that are left, line 3 being the next, up to the text's end or the first line refused.
 pub fn play<P: PhasePoint, S: CoinSource>(
     session: &mut Session<P, S>,
     reader: &mut Reader,
 ) -> Result<(), Stop>
-    ensures { Played (seen P.ValueSheet.sheet S.coins session.old) 3 (drop reader.old.at reader.old.text.now) result (seen P.ValueSheet.sheet S.coins session.new) }
+    ensures { Played (seen P.ValueSheet.sheet S.coins session.old) 3 (drop reader.old.fields.at reader.old.fields.text.now) result (seen P.ValueSheet.sheet S.coins session.new) }
 {
     let mut line = 3;
-    while step(session, reader, line)? {
+    // The reader moves on by itself; `line` counts for the refusals.
+    while let Some(next) = at(line, reader.next())? {
+        at(line, perform(session, next))?;
         line += 1;
     }
     Ok(())

@@ -17,8 +17,8 @@ use Rattle.text.specs.Texts.{Coins, is_coin}
 use Rattle.circuit_text.specs.declared.line.Opening.{Opening}
 use Rattle.circuit_text.specs.Lines.{opening_text, OpeningLaw, coins_line, CoinsLaw}
 use Rattle.circuit_text.specs.Reading.{Absent, OpeningRead, CoinsRead}
-use Rattle.circuit.specs.declared.stop.Stop.{Stop}
-use Rattle.circuit.specs.Lines.{stop}
+use Rattle.text.specs.declared.stop.Stop.{Stop}
+use Rattle.text.specs.Stops.{stop}
 use Rattle.circuit_run.specs.Begun.{Missed, sheet_in, Opened, Supplied}
 use Rattle.circuit_run.specs.Runs.{opening_sheet}
 
@@ -78,11 +78,11 @@ module _ (x : Bor (List ℕ)) (at to : ℕ) where
   was_opened (Ok y) o (Ok p) r same h (ok, (size, rows)) is =
       let e : y ≡ o = cc in
       subst (λ (z : Result Tableau Stop). Opened x.now at z to) (sym is)
-      (o, subst (λ (z : Opening). Hit opening_text OpeningLaw 10 x.now at z to) e h, ok, opened_sheet o p size rows)
+      (o, subst (λ (z : Opening). Hit opening_text OpeningLaw 10 x.now at z to) e h, ok, opened_sheet o p size rows, size, rows)
   was_opened (Ok y) o (Err f) r same h why is =
       let e : y ≡ o = cc in
       subst (λ (z : Result Tableau Stop). Opened x.now at z to) (sym is)
-      (inr (inr (o, f, subst (λ (z : Opening). Hit opening_text OpeningLaw 10 x.now at z to) e h, why, refl)))
+      (inr (inr (o, to, f, subst (λ (z : Opening). Hit opening_text OpeningLaw 10 x.now at z to) e h, why, refl)))
   was_opened (Err f) o t r (e, same, m) h a is = absurd (let z : ◌≡◌ {A = ℕ} 0 1 = cc in omega arith)
 
   -- line 2: its coins are digits, so text coins take them

@@ -19,8 +19,9 @@ use Rattle.tableau_rows.specs.Openings.{opening_fault}
 use Rattle.text.specs.Reading.{Hit}
 use Rattle.circuit_text.specs.declared.line.Opening.{Opening}
 use Rattle.circuit_text.specs.Lines.{opening_text, OpeningLaw, coins_line, CoinsLaw}
-use Rattle.circuit.specs.declared.stop.Stop.{Stop}
-use Rattle.circuit.specs.Lines.{stop, Lines, end, next, not_a_line, refused, Played}
+use Rattle.text.specs.declared.stop.Stop.{Stop}
+use Rattle.circuit.specs.Lines.{Lines, end, next, not_a_line, refused, Played}
+use Rattle.text.specs.Stops.{stop}
 use Rattle.circuit_run.specs.declared.report.Finish.{Finish}
 use Rattle.circuit_run.specs.Begun.{sheet_in, Opened, Supplied}
 use Rattle.circuit_run.specs.Runs.{Fit, opened, how_ended, Tells, PlayedOut, Ran, too_long, no_opening, bad_opening, not_opened, no_coins, bad_coins, played}
@@ -113,8 +114,8 @@ module _ (t : List ℕ) (fit : Fit t) where
       subst (λ (s : Stop). Ran t [] (Err s)) (sym is) (subst (λ (x : List ℕ). Ran x [] (Err (stop 0 TextEnded))) (sym (empty_text h)) no_opening)
   stops_first e to (inr (inl (h, m, is))) =
       subst (λ (s : Stop). Ran t [] (Err s)) (sym is) (bad_opening t fit (some_text h) (λ o rest b. m.never o rest b.0 b.1))
-  stops_first e to (inr (inr (o, f, h, why, is))) =
-      subst (λ (s : Stop). Ran t [] (Err s)) (sym is) (not_opened t o (drop to t) f fit (h.law, h.is) why)
+  stops_first e to (inr (inr (o, after, f, h, why, is))) =
+      subst (λ (s : Stop). Ran t [] (Err s)) (sym is) (not_opened t o (drop after t) f fit (h.law, h.is) why)
 
   module _ (o : Opening) (to : ℕ) (first : Hit opening_text OpeningLaw 10 t 0 o to) (ok : opening_fault o.size o.width ≡ None) where
     pub stops_second : (e : Stop) (to₂ : ℕ) → Supplied t to (Err e) to₂ → Ran t [] (Err e)
@@ -141,7 +142,7 @@ pub record Started (t : List ℕ) (s : State) (at : ℕ) : Type 0 where
 
 pub started : (x a b : Bor (List ℕ)) (at to at₂ : ℕ) (p : Tableau) (q : TextCoins) (s : State) → Fit x.now → a ≡ x → at ≡ 0 → b ≡ a
     → Opened a.now at (Ok p) to → Supplied b.now to (Ok q) at₂ → s ≡ state (sheet_in p) (text_coins q) [] → Started x.now s at₂
-started x a b at to at₂ p q s fit same start same₂ (o, h, ok, sheet) h₂ is = record {
+started x a b at to at₂ p q s fit same start same₂ (o, h, ok, sheet, size, rows) h₂ is = record {
   fit = fit;
   line = o;
   coins_at = to;

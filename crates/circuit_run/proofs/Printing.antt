@@ -1,5 +1,5 @@
 -- Lines added one after the other.
-use Rattle.std.proofs.Common.{◌≡◌, ℕ, zero, suc, ◌+◌, ◌-◌, ◌<◌, ◌≤◌, true, cond, List, [], ◌∷◌, ◌++◌, length, take, drop, is_ok, IfOk, Some, None, Ok, Err, Result, sym, refl, ap, ◌∙◌, subst, append_assoc, arith, take_all}
+use Rattle.std.proofs.Common.{◌≡◌, ℕ, zero, suc, ◌+◌, ◌-◌, ◌<◌, ◌≤◌, true, cond, List, [], ◌∷◌, ◌++◌, length, take, drop, is_ok, IfOk, Some, Ok, Err, Result, sym, refl, ap, ◌∙◌, subst, append_assoc, arith, take_all}
 use lib.Seq.{take-append-le}
 use Rattle.std.specs.List.{slice_get}
 use Rattle.std.proofs.lemmas.List.{append-nil, drop_all}
@@ -10,7 +10,7 @@ use Rattle.journal_lines.specs.declared.event.Event.{Event}
 use Rattle.journal_lines.specs.Entries.{entry_line}
 use Rattle.journal_lines.specs.Lines.{line}
 use Rattle.journal_lines.proofs.Lengths.{longest}
-use Rattle.journal.specs.Journals.{kth, Reading}
+use Rattle.journal.specs.Journals.{Reading}
 use Rattle.runs.specs.Readings.{lines_from, readings}
 use Rattle.circuit_run.specs.Output.{joined}
 
@@ -36,16 +36,6 @@ part_added (Err e) before after part text h is = tt
 
 -- ---- a journal's lines
 
-some_there : {X : Type 0} (xs : List X) (i : ℕ) → i < length xs → slice_get xs i ≡ None → ⊥
-some_there [] i h e = omega arith
-some_there (x ∷ xs) zero h e = let z : ◌≡◌ {A = ℕ} 0 1 = cc in omega arith
-some_there (x ∷ xs) (suc i) h e = some_there xs i (omega arith) e
-
--- an entry that is asked for within the journal is there
-pub entry_there : (es : List Event) (i : ℕ) (r : Result Entry Fault) → i < length es → Reading es (i + 1) r → is_ok r ≡ true
-entry_there es i (Ok e) h d = refl
-entry_there es i (Err f) h d = let place : i + 1 ≡ suc i = omega arith in absurd (some_there es i h (subst (λ k. kth es k ≡ None) place d.1))
-
 lines_drop : (k : ℕ) (es : List Event) (i : ℕ) (e : Event) → slice_get es i ≡ Some e → joined (drop i (lines_from k es)) ≡ line (k + i) e ++ joined (drop (suc i) (lines_from k es))
 lines_drop k [] i e h = absurd (let z : ◌≡◌ {A = ℕ} 0 1 = cc in omega arith)
 lines_drop k (x ∷ es) zero e h =
@@ -56,19 +46,17 @@ lines_drop k (x ∷ es) (suc i) e h =
     let place : suc k + i ≡ k + suc i = omega arith in
     lines_drop (suc k) es i e h ∙ ap (λ j. line j e ++ joined (drop (suc i) (lines_from (suc k) es))) place
 
--- the line of the entry after the first i, and then those after it
-pub next_line : (es : List Event) (i : ℕ) (e : Entry) → Reading es (i + 1) (Ok e) → joined (drop i (readings es)) ≡ entry_line e ++ joined (drop (i + 1) (readings es))
-next_line es i e d =
-    let place : i + 1 ≡ suc i = omega arith in
-    let there : slice_get es i ≡ Some e.event = subst (λ k. kth es k ≡ Some e.event) place d.1 in
+-- the line of entry k added, those after it complete the text
+pub line_added : (es : List Event) (k after : ℕ) (e : Entry) (r : Result Entry Fault) (out next whole : List ℕ) → 0 < k → after ≡ k → Reading es k r → r ≡ Ok e
+    → out ++ joined (drop (k - 1) (readings es)) ≡ whole → next ≡ out ++ entry_line e → next ++ joined (drop after (readings es)) ≡ whole
+line_added es zero after e r out next whole some is read ok h added = absurd (omega arith)
+line_added es (suc i) after e r out next whole some is read ok h added =
+    let d : Reading es (suc i) (Ok e) = subst (λ (x : Result Entry Fault). Reading es (suc i) x) ok read in
+    let before : suc i - 1 ≡ i = omega arith in
     let number : 1 + i ≡ e.number = omega (arith, d.0) in
-    lines_drop 1 es i e.event there ∙ ap (λ k. line k e.event ++ joined (drop (suc i) (readings es))) number
-    ∙ ap (λ k. entry_line e ++ joined (drop k (readings es))) (sym place)
-
--- one line added, the others complete the text as before
-pub line_added : (before more after whole : List ℕ) (l rest : List ℕ) → before ++ more ≡ whole → more ≡ l ++ rest → after ≡ before ++ l → after ++ rest ≡ whole
-line_added before more after whole l rest h m a =
-    ap (λ x. x ++ rest) a ∙ append_assoc before l rest ∙ ap (λ x. before ++ x) (sym m) ∙ h
+    let lines : joined (drop (suc i - 1) (readings es)) ≡ entry_line e ++ joined (drop after (readings es))
+    = ap (λ j. joined (drop j (readings es))) before ∙ lines_drop 1 es i e.event d.1 ∙ (λ j. line (number j) e.event ++ joined (drop (sym is j) (readings es))) in
+    ap (λ x. x ++ joined (drop after (readings es))) added ∙ append_assoc out (entry_line e) (joined (drop after (readings es))) ∙ ap (λ x. out ++ x) (sym lines) ∙ h
 
 length_lines : (k : ℕ) (es : List Event) → length (lines_from k es) ≡ length es
 length_lines k [] = refl

@@ -3,7 +3,7 @@ use Rattle.std.specs.Prelude.{◌≡◌, ℕ, List, [], ◌∷◌, ◌++◌, Ok,
 use Rattle.pauli.specs.Faults.{number_of}
 use Rattle.journal_lines.specs.declared.event.Event.{Event}
 use Rattle.runs.specs.Readings.{readings}
-use Rattle.circuit.specs.declared.stop.Stop.{Stop}
+use Rattle.text.specs.declared.stop.Stop.{Stop}
 use Rattle.circuit_run.specs.declared.report.Finish.{Finish}
 use Rattle.circuit_run.specs.Runs.{Ran}
 

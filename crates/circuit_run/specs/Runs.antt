@@ -14,8 +14,9 @@ use Rattle.tableau_laws.specs.Rules.{sheet_of}
 use Rattle.tableau_rows.specs.Openings.{opening_fault}
 use Rattle.circuit_text.specs.declared.line.Opening.{Opening}
 use Rattle.circuit_text.specs.Lines.{opening_text, OpeningLaw, coins_line}
-use Rattle.circuit.specs.declared.stop.Stop.{Stop}
-use Rattle.circuit.specs.Lines.{stop, Lines}
+use Rattle.text.specs.declared.stop.Stop.{Stop}
+use Rattle.circuit.specs.Lines.{Lines}
+use Rattle.text.specs.Stops.{stop}
 use Rattle.circuit_run.specs.declared.report.Finish.{Finish}
 
 -- ---- lines 1 and 2

@@ -4,3 +4,5 @@
 pub mod output;
 pub mod report;
 pub mod run;
+#[cfg(test)]
+mod tests;

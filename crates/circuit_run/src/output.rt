@@ -1,42 +1,39 @@
 // What the program prints of a circuit: the lines of the journal, and a last line that tells how it ended.
 ghost use Rattle.std.specs.Prelude.{◌≡◌, ◌++◌, IfOk, string_bytes, OnOk};
-ghost use Rattle.journal.specs.Journals.{events};
 ghost use Rattle.journal_lines.specs.Entries.{entry_line};
 ghost use Rattle.runs.specs.Readings.{readings};
 ghost use Rattle.circuit_run.specs.Output.{joined, last_line, output, Answered};
 
 use crate::report::{Finish, Report};
 use crate::run::run;
-use circuit::stop::Stop;
 use journal::Journal;
 use journal_lines::entry::Entry;
+use journal_lines::lines::LONGEST_LINE;
 use std::alloc::{AllocError, Global};
-
-// The longest line of a journal.
-const LINE: usize = 144;
+use text::stop::Stop;
 
 // Adds the line of an entry.
 fn add_entry(out: &mut Vec<u8>, entry: Entry) -> Result<(), AllocError>
     ensures { OnOk result (out.new.items ≡ out.old.items ++ entry_line entry) }
 {
-    let mut page = [0; LINE];
+    let mut page = [0; LONGEST_LINE];
     let length = entry.write_line(&mut page).unwrap();
     out.extend_from_slice(&page[0..length])
 }
 
 // Adds the lines of a journal.
 fn add_journal(out: &mut Vec<u8>, journal: &Journal) -> Result<(), AllocError>
-    ensures { OnOk result (out.new.items ≡ out.old.items ++ joined (readings (events journal.now))) }
+    ensures { OnOk result (out.new.items ≡ out.old.items ++ joined (readings journal.now)) }
 {
-    for before in 0..journal.len() {
-        let entry = journal.entry(before + 1).unwrap();
-        add_entry(out, entry)?;
+    // Entries are asked for by their numbers.
+    for number in 1..=journal.len() {
+        add_entry(out, journal.entry(number).unwrap())?;
     }
     Ok(())
 }
 
 // The last line: `E,entries,coins,width` or `R,line,number`.
-fn last_line(heap: Global, end: Result<Finish, Stop>) -> Result<String, AllocError>
+pub fn last_line(heap: Global, end: Result<Finish, Stop>) -> Result<String, AllocError>
     ensures { IfOk result (λ line. string_bytes line ≡ last_line end) }
 {
     match end {
@@ -56,7 +53,7 @@ fn last_line(heap: Global, end: Result<Finish, Stop>) -> Result<String, AllocErr
 
 // What is printed of a report.
 pub fn print(heap: Global, report: &Report) -> Result<Vec<u8>, AllocError>
-    ensures { IfOk result (λ out. out.items ≡ output (events report.now.journal) report.now.end) }
+    ensures { IfOk result (λ out. out.items ≡ output report.now.journal report.now.end) }
 {
     let mut out = Vec::new(heap);
     add_journal(&mut out, &report.journal)?;

@@ -1,6 +1,6 @@
 // What a circuit came to.
-use circuit::stop::Stop;
 use journal::Journal;
+use text::stop::Stop;
 
 // What is told at the end of a text: how many entries the journal has, how many coins were spent, and the width.
 #[derive(Clone, Copy, PartialEq, Eq, Debug)]

@@ -1,13 +1,19 @@
 -- Lines made of fields.
-use Rattle.std.proofs.Common.{◌≡◌, ℕ, ◌+◌, ◌≤◌, Bool, List, ◌∷◌, ◌++◌, length, get_or, drop, sym, refl, ap, ◌∙◌, ap₂, arith, length-drop}
+use Rattle.std.proofs.Common.{◌≡◌, ℕ, ◌+◌, ◌≤◌, Bool, List, ◌∷◌, ◌++◌, length, get_or, drop, Ok, sym, refl, ap, ◌∙◌, subst, ap₂, arith, length-drop}
 use Rattle.pauli.specs.declared.gate.Gate.{Gate}
 use Rattle.pauli.specs.declared.gate.OneQubit.{OneQubit}
 use Rattle.text.specs.Reading.{Hit, Miss}
 use Rattle.text.specs.Texts.{Any, one, num, Short, sign_text, sign_byte, gate_text, Gated, turn_text, Turn, same, Letters, Coins}
 use Rattle.text.proofs.Fields.{both, Both}
 use Rattle.text.proofs.Places.{peel}
-use Rattle.circuit_text.specs.declared.line.Opening.{Opening}
-use Rattle.circuit_text.specs.Lines.{opening_text, OpeningLaw, coins_line, CoinsLaw, Said, gate, measure, conditional, kind_of, body_of, said_text, SaidLaw}
+use Rattle.text.specs.declared.read.Fields.{Fields}
+use Rattle.circuit_text.specs.declared.line.Line.{Line}
+use Rattle.circuit_text.specs.Reading.{LineAt}
+use Rattle.circuit_text.specs.Lines.{coins_line, CoinsLaw, Said, gate, measure, conditional, kind_of, body_of, said_text, SaidLaw}
+
+-- a line under another name
+pub read_as : (old : Fields) {l m : Line} {f g : Fields} → l ≡ m → f ≡ g → LineAt old (Ok m) g → LineAt old (Ok l) f
+read_as old {l} {m} {f} {g} e d h = subst (λ (z : Line). LineAt old (Ok z) f) (sym e) (subst (λ (z : Fields). LineAt old (Ok m) z) (sym d) h)
 
 -- ---- the kind, and a comma
 
@@ -21,26 +27,6 @@ module _ (t : List ℕ) (at b mid : ℕ) (kind : Hit one Any 44 t at b mid) wher
 
   pub body_is : drop (at + 2) t ≡ drop mid t
   body_is = ap (λ i. drop i t) (sym body_at)
-
-  -- ---- line 1
-
-  module _ (q : b ≡ 81) where
-    sized : (o : Opening) (rest : List ℕ) → drop at t ≡ opening_text o ++ 10 ∷ rest → drop mid t ≡ (num o.size ++ 44 ∷ num o.width) ++ 10 ∷ rest
-    sized o rest e = sym (kind.only 81 ((num o.size ++ 44 ∷ num o.width) ++ 10 ∷ rest) tt e).1
-
-    pub opening_miss : Miss (both num Short num Short) (Both num Short num Short) 10 t mid → Miss opening_text OpeningLaw 10 t at
-    opening_miss m = record { never = λ o rest l e. m.never (o.size, o.width) rest l (sized o rest e) }
-
-    pub opening_hit : (n w to : ℕ) → Hit (both num Short num Short) (Both num Short num Short) 10 t mid (n, w) to
-        → Hit opening_text OpeningLaw 10 t at (record { size = n; width = w }) to
-    opening_hit n w to h = record {
-      law = h.law;
-      within = h.within;
-      is = kind.is ∙ ap₂ (λ (x : ℕ) (y : List ℕ). x ∷ 44 ∷ y) q h.is;
-      only = λ o rest l e.
-          let u = h.only (o.size, o.width) rest l (sized o rest e) in
-          (ap (λ p. record { size = p.0; width = p.1 }) u.0, u.1);
-    }
 
   -- ---- line 2
 
@@ -70,14 +56,6 @@ module _ (t : List ℕ) (at b mid : ℕ) (kind : Hit one Any 44 t at b mid) wher
   said_miss : ((x : Said) (rest : List ℕ) → SaidLaw x → kind_of x ≡ b → drop mid t ≡ body_of x ++ 10 ∷ rest → ⊥) → Miss said_text SaidLaw 10 t at
   said_miss never = record { never = λ x rest l d. let o = kind.only (kind_of x) (body_of x ++ 10 ∷ rest) tt d in never x rest l o.0 (sym o.1) }
 
-  pub other_kind : (b ≡ 71 → ⊥) → (b ≡ 77 → ⊥) → (b ≡ 70 → ⊥) → Miss said_text SaidLaw 10 t at
-  other_kind g m f = said_miss go
-    where
-      go : (x : Said) (rest : List ℕ) → SaidLaw x → kind_of x ≡ b → drop mid t ≡ body_of x ++ 10 ∷ rest → ⊥
-      go (gate a) rest l k d = g (sym k)
-      go (measure a c) rest l k d = m (sym k)
-      go (conditional a c d) rest l k e = f (sym k)
-
   module _ (q : b ≡ 71) where
     pub gate_hit : (g : Gate) (to : ℕ) → Hit gate_text Gated 10 t mid g to → Hit said_text SaidLaw 10 t at (gate g) to
     gate_hit g to h = said_hit (gate g) to h.law h.within q h.is go
@@ -87,32 +65,8 @@ module _ (t : List ℕ) (at b mid : ℕ) (kind : Hit one Any 44 t at b mid) wher
         go (measure a c) rest l k d = absurd (omega (arith, k, q))
         go (conditional a c d) rest l k e = absurd (omega (arith, k, q))
 
-    pub gate_miss : Miss gate_text Gated 10 t mid → Miss said_text SaidLaw 10 t at
-    gate_miss m = said_miss go
-      where
-        go : (x : Said) (rest : List ℕ) → SaidLaw x → kind_of x ≡ b → drop mid t ≡ body_of x ++ 10 ∷ rest → ⊥
-        go (gate a) rest l k d = m.never a rest l d
-        go (measure a c) rest l k d = omega (arith, k, q)
-        go (conditional a c d) rest l k e = omega (arith, k, q)
-
   module _ (q : b ≡ 77) where
-    pub sign_miss : Miss sign_text Any 44 t mid → Miss said_text SaidLaw 10 t at
-    sign_miss m = said_miss go
-      where
-        go : (x : Said) (rest : List ℕ) → SaidLaw x → kind_of x ≡ b → drop mid t ≡ body_of x ++ 10 ∷ rest → ⊥
-        go (gate a) rest l k d = omega (arith, k, q)
-        go (measure a c) rest l k d = m.never a (c ++ 10 ∷ rest) tt d
-        go (conditional a c d) rest l k e = omega (arith, k, q)
-
     module _ (s : Bool) (m2 : ℕ) (sign : Hit sign_text Any 44 t mid s m2) where
-      pub letters_miss : Miss same Letters 10 t m2 → Miss said_text SaidLaw 10 t at
-      letters_miss m = said_miss go
-        where
-          go : (x : Said) (rest : List ℕ) → SaidLaw x → kind_of x ≡ b → drop mid t ≡ body_of x ++ 10 ∷ rest → ⊥
-          go (gate a) rest l k d = omega (arith, k, q)
-          go (measure a c) rest l k d = m.never c rest l (sym (sign.only a (c ++ 10 ∷ rest) tt d).1)
-          go (conditional a c d) rest l k e = omega (arith, k, q)
-
       pub measure_hit : (l : List ℕ) (to : ℕ) → Hit same Letters 10 t m2 l to → Hit said_text SaidLaw 10 t at (measure s l) to
       measure_hit l to h = said_hit (measure s l) to h.law h.within q (sign.is ∙ ap (λ (y : List ℕ). sign_byte s ∷ 44 ∷ y) h.is) go
         where

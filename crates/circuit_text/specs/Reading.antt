@@ -3,6 +3,7 @@ use Rattle.std.specs.Prelude.{◌≡◌, ℕ, ◌+◌, ◌<◌, ◌≤◌, ◌�
 use Rattle.std.specs.Borrow.{Bor}
 use Rattle.pauli.specs.declared.fault.Fault.{Fault}
 use Rattle.pauli.specs.declared.fault.Fault.TheVariants.{BadForm, TextEnded}
+use Rattle.text.specs.declared.read.Fields.{Fields}
 use Rattle.text.specs.Reading.{Hit, Miss}
 use Rattle.text.specs.Texts.{sign_byte}
 use Rattle.circuit_text.specs.declared.line.Opening.{Opening}
@@ -20,15 +21,16 @@ Placed x at (L.Measure s l) to =
 Placed x at (L.Conditional k g q) to = drop (at + 2) x.now ≡ body_of (said (L.Conditional k g q)) ++ 10 ∷ drop to x.now
 
 -- a line of this form stands at the place, or none does
-abbrev pub LineAt : Bor (List ℕ) → ℕ → Result (Line × ℕ) Fault → Type 0
-LineAt x at (Ok p) = Hit said_text SaidLaw 10 x.now at (said p.0) p.1 × Placed x at p.0 p.1
-LineAt x at (Err f) = (f ≡ BadForm) × Miss said_text SaidLaw 10 x.now at
+abbrev pub LineAt : (old : Fields) → Result Line Fault → (new : Fields) → Type 0
+LineAt old (Ok l) new = (new.text ≡ old.text) × Hit said_text SaidLaw 10 old.text.now old.at (said l) new.at × Placed old.text old.at l new.at
+LineAt old (Err f) new = (f ≡ BadForm) × (new ≡ old) × Miss said_text SaidLaw 10 old.text.now old.at
 
 -- the coins of line 2 are a part of the text's own memory too
-abbrev pub CoinsAt : Bor (List ℕ) → ℕ → Result (Bor (List ℕ) × ℕ) Fault → Type 0
-CoinsAt x at (Ok p) =
-    Hit coins_line CoinsLaw 10 x.now at p.0.now p.1 × (p.0.ref_ptr.0 ≡ x.ref_ptr.0) × (p.0.ref_ptr.1 ≡ at + 2 + x.ref_ptr.1)
-CoinsAt x at (Err f) = (f ≡ BadForm) × Miss coins_line CoinsLaw 10 x.now at
+abbrev pub CoinsAt : (old : Fields) → Result (Bor (List ℕ)) Fault → (new : Fields) → Type 0
+CoinsAt old (Ok l) new =
+    (new.text ≡ old.text) × Hit coins_line CoinsLaw 10 old.text.now old.at l.now new.at × (l.ref_ptr.0 ≡ old.text.ref_ptr.0)
+    × (l.ref_ptr.1 ≡ old.at + 2 + old.text.ref_ptr.1)
+CoinsAt old (Err f) new = (f ≡ BadForm) × (new ≡ old) × Miss coins_line CoinsLaw 10 old.text.now old.at
 
 -- ---- a reader's calls: the place moves to the next line, and stays where a line is refused or the text has ended
 

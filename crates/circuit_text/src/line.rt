@@ -13,6 +13,7 @@ pub struct Opening {
 pub enum Line<'a> {
     Gate(Gate),
     Measure {
+        // True for minus, as in a row.
         sign: bool,
         letters: &'a [u8],
     },

@@ -1,5 +1,5 @@
-// Readers of whole lines: each takes the text and the place where the line begins, and answers what it says and the place of the next.
-ghost use Rattle.std.specs.Prelude.{◌≡◌};
+// Readers of whole lines: each answers what the line says and moves to the next, or refuses it and stays.
+// Each compares the kind of its line itself: a helper, with its contract, would be longer than what it saves.
 ghost use Rattle.text.specs.Reading.{Reads};
 ghost use Rattle.circuit_text.specs.Lines.{opening_text, OpeningLaw};
 ghost use Rattle.circuit_text.specs.Reading.{CoinsAt, LineAt};
@@ -7,66 +7,64 @@ ghost use Rattle.circuit_text.specs.Reading.{CoinsAt, LineAt};
 use crate::line::{Line, Opening};
 use pauli::fault::Fault;
 use text::end::End;
-use text::read;
+use text::read::Fields;
 
 // The most coins that a circuit brings.
 const MOST_COINS: usize = 4096;
 
 // Line 1, as `Q,3,2`.
-pub(crate) fn opening(text: &[u8], at: usize) -> Result<(Opening, usize), Fault>
-    ensures { Reads opening_text OpeningLaw 10 text.now at result }
+pub(crate) fn opening(line: &mut Fields) -> Result<Opening, Fault>
+    ensures { Reads opening_text OpeningLaw 10 line.old result line.new }
 {
-    let (kind, at) = read::byte(text, at, End::Comma)?;
-    if kind != b'Q' {
+    let mut fields = *line;
+    if fields.byte(End::Comma)? != b'Q' {
         return Err(Fault::BadForm);
     }
-    let (size, at) = read::number(text, at, End::Comma)?;
-    let (width, to) = read::number(text, at, End::LineFeed)?;
-    Ok((Opening { size, width }, to))
+    let size = fields.number(End::Comma)?;
+    let width = fields.number(End::LineFeed)?;
+    *line = fields;
+    Ok(Opening { size, width })
 }
 
 // Line 2, as `B,1011`: the coins, as the part of the text that they are.
-pub(crate) fn coins<'a>(text: &'a [u8], at: usize) -> Result<(&'a [u8], usize), Fault>
-    ensures { CoinsAt text.entry at result }
+pub(crate) fn coins<'a>(line: &mut Fields<'a>) -> Result<&'a [u8], Fault>
+    ensures { CoinsAt line.old result line.new }
 {
-    let (kind, at) = read::byte(text, at, End::Comma)?;
-    if kind != b'B' {
+    let mut fields = *line;
+    if fields.byte(End::Comma)? != b'B' {
         return Err(Fault::BadForm);
     }
-    let (coins, to) = read::coins(text, at, End::LineFeed)?;
+    let coins = fields.coins(End::LineFeed)?;
     if coins.len() > MOST_COINS {
         return Err(Fault::BadForm);
     }
-    Ok((coins, to))
+    *line = fields;
+    Ok(coins)
 }
 
 // Any later line.
-pub(crate) fn line<'a>(text: &'a [u8], at: usize) -> Result<(Line<'a>, usize), Fault>
-    ensures { LineAt text.entry at result }
+pub(crate) fn line<'a>(line: &mut Fields<'a>) -> Result<Line<'a>, Fault>
+    ensures { LineAt line.old result line.new }
 {
-    let (kind, at) = read::byte(text, at, End::Comma)?;
-    match kind {
-        b'G' => {
-            let (gate, to) = read::gate(text, at, End::LineFeed)?;
-            Ok((Line::Gate(gate), to))
-        }
+    let mut fields = *line;
+    let said = match fields.byte(End::Comma)? {
+        b'G' => Line::Gate(fields.gate(End::LineFeed)?),
         b'M' => {
-            let (sign, at) = read::sign(text, at, End::Comma)?;
-            let (letters, to) = read::letters(text, at, End::LineFeed)?;
-            Ok((Line::Measure { sign, letters }, to))
+            let sign = fields.sign(End::Comma)?;
+            let letters = fields.letters(End::LineFeed)?;
+            Line::Measure { sign, letters }
         }
         b'F' => {
-            let (outcome, at) = read::number(text, at, End::Comma)?;
-            let ((gate, qubit), to) = read::one_qubit(text, at, End::LineFeed)?;
-            Ok((
-                Line::Conditional {
-                    outcome,
-                    gate,
-                    qubit,
-                },
-                to,
-            ))
+            let outcome = fields.number(End::Comma)?;
+            let (gate, qubit) = fields.one_qubit(End::LineFeed)?;
+            Line::Conditional {
+                outcome,
+                gate,
+                qubit,
+            }
         }
-        _ => Err(Fault::BadForm),
-    }
+        _ => return Err(Fault::BadForm),
+    };
+    *line = fields;
+    Ok(said)
 }

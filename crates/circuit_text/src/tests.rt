@@ -9,7 +9,7 @@ fn is_refused(text: &[u8], fault: Fault) -> Result<bool, Fault> {
     let mut reader = Reader::over(text)?;
     match reader.next() {
         Ok(_) => Ok(false),
-        Err(why) => Ok(why.number() == fault.number() && reader.at == 0),
+        Err(why) => Ok(why.number() == fault.number() && reader.fields.at == 0),
     }
 }
 
@@ -25,7 +25,7 @@ fn a_circuit_is_read_through(rt: HostRuntime) -> Result<(), Fail> {
     if let Some(Line::Measure { sign, letters }) = reader.next()? {
         assert!(rt; sign && letters.len() == 3);
     }
-    assert_eq!(rt; reader.at, 30);
+    assert_eq!(rt; reader.fields.at, 30);
     if let Some(
         Line::Conditional {
             outcome,

@@ -1,5 +1,5 @@
 -- Written coins: reading gives back what was written, and nothing else is accepted.
-use Rattle.std.proofs.Common.{◌≡◌, ℕ, suc, ◌-◌, ◌≤◌, Bool, true, false, eqb, List, [], ◌∷◌, length, get_or, take, drop, sym, refl, ap, ◌∙◌, inl, inr, not-suc-le-zero, arith, take_all}
+use Rattle.std.proofs.Common.{◌≡◌, ℕ, suc, Bool, true, false, eqb, List, [], ◌∷◌, length, refl, ap, ◌∙◌, inl, inr}
 use Rattle.std.proofs.lemmas.Bool.{and_parts, or_cases, eqb-true, both_ways}
 use Rattle.coins.specs.Digits.{digit, digits, is_digit, all_digits, coins_of}
 
@@ -26,14 +26,3 @@ unwritten ds h cs e = both_ways (all_digits ds) h (ap all_digits e ∙ all_writt
 pub length_coins : (ds : List ℕ) → length (coins_of ds) ≡ length ds
 length_coins [] = refl
 length_coins (d ∷ ds) = ap suc (length_coins ds)
-
--- the first coin, and those of the rest
-pub first_coin : (ds : List ℕ) → 1 ≤ length ds → coins_of ds ≡ eqb (get_or ds 0 0) 49 ∷ coins_of (take (length ds - 1) (drop 1 ds))
-first_coin [] h = absurd (not-suc-le-zero h)
-first_coin (d ∷ ds) h =
-    let n : length ds ≤ suc (length ds) - 1 = omega arith in
-    ap (λ xs. eqb d 49 ∷ coins_of xs) (sym (take_all (suc (length ds) - 1) ds n))
-
-pub no_coins : (ds : List ℕ) → length ds ≡ 0 → coins_of ds ≡ []
-no_coins [] h = refl
-no_coins (d ∷ ds) h = absurd (omega arith)

@@ -1,5 +1,6 @@
 -- Coins as written digits.
-use Rattle.std.specs.Prelude.{ℕ, Bool, true, false, ◌&&◌, ◌||◌, List, [], ◌∷◌, ◌==◌}
+use Rattle.std.specs.List.{list_all}
+use Rattle.std.specs.Prelude.{ℕ, Bool, true, false, ◌||◌, List, [], ◌∷◌, ◌==◌}
 use Rattle.coins.specs.declared.text.TextCoins.{TextCoins}
 
 -- a coin is written as the digit 0 or 1, in ASCII
@@ -17,8 +18,7 @@ is_digit d = d == 48 || d == 49
 
 -- whether every byte is such a digit
 abbrev pub all_digits : List ℕ → Bool
-all_digits [] = true
-all_digits (d ∷ ds) = is_digit d && all_digits ds
+all_digits = list_all is_digit
 
 -- the coins of written digits
 abbrev pub coins_of : List ℕ → List Bool

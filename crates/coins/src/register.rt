@@ -1,10 +1,10 @@
 // Coins made by a shift register of 16 bits.
 ghost use Rattle.std.specs.Prelude.{◌≡◌, ◌<◌, MatchResult};
 ghost use Rattle.pauli.specs.declared.fault.Fault.TheVariants.{BadStart};
-ghost use Rattle.pauli.specs.Bits.{bit_of};
 ghost use Rattle.coins.specs.Tosses.{next, tosses, register_coins};
 
 use crate::source::CoinSource;
+use pauli::bits::bit;
 use pauli::fault::Fault;
 
 // The word that the register holds, and how many draws are left.
@@ -14,17 +14,11 @@ pub struct Register {
     draws: u16,
 }
 
-fn bit(word: u16, place: u32) -> bool
-    requires { place < 16 }
-    ensures { result ≡ bit_of word place }
-{
-    (word >> place) % 2 == 1
-}
-
 fn next(word: u16) -> u16
     ensures { result ≡ next word }
 {
-    let top = bit(word, 0) ^ bit(word, 2) ^ bit(word, 3) ^ bit(word, 5);
+    let bits = u64::from(word);
+    let top = bit(bits, 0) ^ bit(bits, 2) ^ bit(bits, 3) ^ bit(bits, 5);
     if top { (word >> 1) + 0x8000 } else { word >> 1 }
 }
 
@@ -44,16 +38,13 @@ impl CoinSource for Register {
     ghost coins = { register_coins };
 
     fn left(&self) -> u64 {
-        self.draws as u64
+        u64::from(self.draws)
     }
 
     fn draw(&mut self) -> Option<bool> {
-        if self.draws == 0 {
-            return None;
-        }
-        let coin = bit(self.word, 0);
+        self.draws = self.draws.checked_sub(1)?;
+        let coin = bit(u64::from(self.word), 0);
         self.word = next(self.word);
-        self.draws -= 1;
         Some(coin)
     }
 }

@@ -21,10 +21,11 @@ pub fn draw_word<S: CoinSource>(source: &mut S, count: u32) -> Option<u64>
     ensures drawn { WordDrawn count (S.coins source.old) result (S.coins source.new) }
     ensures kept { result ≡ None → source.new ≡ source.old }
 {
-    if count > 64 || source.left() < count as u64 {
+    if count > 64 || source.left() < u64::from(count) {
         return None;
     }
     let mut word: u64 = 0;
+    // `i` is the place of the coin in the word, and not one in a list.
     for i in 0..count {
         let coin = source.draw()?;
         word += u64::from(coin) << i;

@@ -15,18 +15,14 @@ pub struct TextCoins<'a> {
 fn is_digit(byte: u8) -> bool
     ensures { result ≡ is_digit byte }
 {
-    byte == b'0' || byte == b'1'
+    matches!(byte, b'0' | b'1')
 }
 
+// (A reader of fields tests the same. No crate that lies below both is about coins.)
 fn only_digits(text: &[u8]) -> bool
     ensures { result ≡ all_digits text.now }
 {
-    for byte in text {
-        if !is_digit(*byte) {
-            return false;
-        }
-    }
-    true
+    text.iter().all(|byte| is_digit(*byte))
 }
 
 impl<'a> TextCoins<'a> {
@@ -49,12 +45,8 @@ impl<'a> CoinSource for TextCoins<'a> {
     }
 
     fn draw(&mut self) -> Option<bool> {
-        match self.rest {
-            [] => None,
-            [first, rest @ ..] => {
-                self.rest = rest;
-                Some(*first == b'1')
-            }
-        }
+        let (first, rest) = self.rest.split_first()?;
+        self.rest = rest;
+        Some(*first == b'1')
     }
 }

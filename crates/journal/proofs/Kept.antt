@@ -1,22 +1,21 @@
 -- The events of a journal: each lawful at its place, and the outcomes among them.
-use Rattle.std.proofs.Common.{◌≡◌, ℕ, zero, suc, ◌+◌, ◌-◌, ◌<◌, ◌≤◌, Bool, true, false, cond, leb, List, [], ◌∷◌, ◌++◌, length, get_or, take, drop, set, Some, None, Ok, Err, Option, Result, sym, refl, ap, ◌∙◌, subst, le_of_suc-le-suc, arith}
-use Rattle.std.proofs.lemmas.List.{length-take-le, get_or-take, drop_more, drop_all, take_more_set}
-use Rattle.std.proofs.lemmas.Option.{slice_get-get_or, slice_get_past}
-use Rattle.std.proofs.lemmas.Bool.{and_from, and_parts, le-leb, lt-leb, both_ways}
+use Rattle.std.proofs.Common.{◌≡◌, ℕ, zero, suc, ◌+◌, ◌-◌, ◌<◌, Bool, true, false, cond, leb, List, [], ◌∷◌, ◌++◌, length, get_or, take, set, Some, None, Ok, Err, Option, Result, ok_or, option_map, sym, refl, ap, ◌∙◌, subst, le_of_suc-le-suc, arith, length-set}
+use Rattle.std.proofs.lemmas.List.{length-take-le, take_more_set}
+use Rattle.std.proofs.lemmas.Option.{slice_get_within, get_or_from_slice_get}
+use Rattle.std.proofs.lemmas.Bool.{and_from, and_parts, le-leb, both_ways}
 use Rattle.std.specs.List.{slice_get}
 use Rattle.pauli.specs.declared.fault.Fault.{Fault}
-use Rattle.pauli.specs.declared.fault.Fault.TheVariants.{BadForm, JournalFull}
+use Rattle.pauli.specs.declared.fault.Fault.TheVariants.{BadForm}
 use Rattle.pauli.specs.Faults.{Answers}
 use Rattle.journal_lines.specs.declared.entry.Entry.{Entry}
 use Rattle.journal_lines.specs.declared.event.Event.{Event}
-use Rattle.journal_lines.specs.declared.event.Event.TheVariants as E
-use Rattle.journal.specs.declared.journal.Journal.{Journal}
-use Rattle.journal.specs.Journals.{events, outcome_of, outcomes, kth, adding_fault, Reading}
+use Rattle.journal.specs.Journals.{kth, answer, Reading}
 use Rattle.journal_lines.specs.Lawful.{numbered, sound, lawful, making_fault}
-use Rattle.journal.specs.Places.{all_lawful}
+use Rattle.journal.specs.Places.{all_lawful, Kept}
 
-pub length_events : (j : Journal) → length (events j) ≡ j.len
-length_events j = let w = j.whole in let o = j.room in length-take-le j.len j.slots (omega arith)
+-- as many slots are taken as there are events
+pub length_kept : (len : ℕ) (slots es : List Event) → Kept len slots → take len slots ≡ es → len ≡ length es
+length_kept len slots es kept is = let o = kept.room in let w = kept.whole in sym (length-take-le len slots (omega arith)) ∙ ap length is
 
 -- ---- each lawful at its place
 
@@ -39,24 +38,22 @@ all_at k (x ∷ xs) (suc i) d a h =
     subst (λ n. lawful n (get_or xs i d) ≡ true) z (all_at (suc k) xs i d (and_parts (lawful k x) (all_lawful (suc k) xs) a).1 (le_of_suc-le-suc h))
 
 -- one more event
-module _ (j : Journal) (e : Event) where
-  pub added : j.len < 512 → take (j.len + 1) (set j.slots j.len e) ≡ events j ++ e ∷ []
-  added h = let w = j.whole in take_more_set j.slots j.len e (omega arith)
+module _ (len : ℕ) (slots es : List Event) (kept : Kept len slots) (is : take len slots ≡ es) (e : Event) (low : len < 512) where
+  pub one_more : take (len + 1) (set slots len e) ≡ es ++ e ∷ []
+  one_more = let w = kept.whole in take_more_set slots len e (omega arith) ∙ ap (λ (xs : List Event). xs ++ e ∷ []) is
 
-  pub added_lawful : j.len < 512 → sound (j.len + 1) e ≡ true → all_lawful 1 (take (j.len + 1) (set j.slots j.len e)) ≡ true
-  added_lawful h s =
-      let n = length_events j in
-      let z : 1 + length (events j) ≡ j.len + 1 = omega arith in
-      let here : lawful (j.len + 1) e ≡ true =
-      and_from (numbered (j.len + 1)) (sound (j.len + 1) e) (and_from (leb 1 (j.len + 1)) (leb (j.len + 1) 512) (le-leb 1 (j.len + 1) (omega arith)) (le-leb (j.len + 1) 512 (omega arith))) s in
-      ap (all_lawful 1) (added h) ∙ all_push 1 (events j) e j.lawful (subst (λ n. lawful n e ≡ true) (sym z) here)
-
-  pub not_refused : j.len < 512 → sound (j.len + 1) e ≡ true → adding_fault (events j) e ≡ None
-  not_refused h s =
-      let n = length_events j in
-      let low : leb 512 (length (events j)) ≡ false = lt-leb 512 (length (events j)) (omega arith) in
-      let ok : sound (length (events j) + 1) e ≡ true = subst (λ k. sound (k + 1) e ≡ true) (sym n) s in
-      λ i. cond (ok i) (cond (low i) (Some JournalFull) None) (Some BadForm)
+  pub kept_more : sound (len + 1) e ≡ true → Kept (len + 1) (set slots len e)
+  kept_more s =
+      let n = length_kept len slots es kept is in
+      let z : len + 1 ≡ 1 + length es = omega arith in
+      let here : lawful (len + 1) e ≡ true
+      = and_from (numbered (len + 1)) (sound (len + 1) e) (and_from (leb 1 (len + 1)) (leb (len + 1) 512) (le-leb 1 (len + 1) (omega arith)) (le-leb (len + 1) 512 (omega arith))) s in
+      record {
+        room = omega arith;
+        whole = length-set slots len e ∙ kept.whole;
+        lawful = ap (all_lawful 1) one_more
+            ∙ all_push 1 es e (subst (λ (xs : List Event). all_lawful 1 xs ≡ true) is kept.lawful) (subst (λ k. lawful k e ≡ true) z here);
+      }
 
 -- ---- the k-th
 
@@ -64,68 +61,37 @@ kth_nth : {X : Type 0} (xs : List X) (k : ℕ) → 0 < k → kth xs k ≡ slice_
 kth_nth xs zero h = absurd (omega arith)
 kth_nth xs (suc i) h = let e : i ≡ suc i - 1 = omega arith in ap (slice_get xs) e
 
-pub kth_past : {X : Type 0} (xs : List X) (k : ℕ) → length xs < k → kth xs k ≡ None
-kth_past xs k h = kth_nth xs k (omega arith) ∙ slice_get_past xs (k - 1) (omega arith)
-
-pub kth_zero : {X : Type 0} (xs : List X) (k : ℕ) → k ≡ 0 → kth xs k ≡ None
-kth_zero xs k e = ap (kth xs) e
+-- the k-th, where `before` stand before it
+pub kth_after : {X : Type 0} (xs : List X) (k before : ℕ) → 0 < k → before ≡ k - 1 → kth xs k ≡ slice_get xs before
+kth_after xs k before some is = kth_nth xs k some ∙ ap (slice_get xs) (sym is)
 
 -- an entry that is there is lawful, so it can be made
-pub read_entry : (j : Journal) (k : ℕ) (d : Event) (r : Result Entry Fault) → 0 < k → k ≤ j.len
-    → Answers (making_fault k (get_or j.slots (k - 1) d)) (λ e. (e.number ≡ k) × (e.event ≡ get_or j.slots (k - 1) d)) r → Reading (events j) k r
-read_entry j k d r some h = go r
+pub read_entry : (es : List Event) (k before : ℕ) (e : Event) (r : Result Entry Fault) → all_lawful 1 es ≡ true → 0 < k → before ≡ k - 1 → slice_get es before ≡ Some e
+    → Answers (making_fault k e) (λ n. (n.number ≡ k) × (n.event ≡ e)) r → Reading es k r
+read_entry es k before e r all some is there = go r
   where
-    long : k - 1 < length (events j)
-    long = omega (arith, length_events j)
+    at : kth es k ≡ Some e
+    at = kth_after es k before some is ∙ there
 
-    is : get_or (events j) (k - 1) d ≡ get_or j.slots (k - 1) d
-    is = let l : k - 1 < j.len = omega arith in get_or-take j.len j.slots (k - 1) d l
-
-    there : kth (events j) k ≡ Some (get_or j.slots (k - 1) d)
-    there = kth_nth (events j) k some ∙ slice_get-get_or (events j) (k - 1) d long ∙ ap (λ e. Some e) is
-
-    good : lawful k (get_or j.slots (k - 1) d) ≡ true
-    good = let z : 1 + (k - 1) ≡ k = omega arith in sym (λ i. lawful (z i) (is i)) ∙ all_at 1 (events j) (k - 1) d j.lawful long
+    good : lawful k e ≡ true
+    good =
+        let z : 1 + before ≡ k = omega arith in
+        sym (λ i. lawful (z i) (get_or_from_slice_get es before e e there i)) ∙ all_at 1 es before e all (slice_get_within es before e there)
 
     never : (b : Bool) (f : Fault) → cond b None (Some BadForm) ≡ Some f → b ≡ true → ⊥
     never true f e t = let z : ◌≡◌ {A = ℕ} 0 1 = cc in omega arith
     never false f e t = both_ways false refl t
 
-    go : (r : Result Entry Fault) → Answers (making_fault k (get_or j.slots (k - 1) d)) (λ e. (e.number ≡ k) × (e.event ≡ get_or j.slots (k - 1) d)) r → Reading (events j) k r
-    go (Ok e) told = (told.1.0, there ∙ ap (λ v. Some v) (sym told.1.1))
-    go (Err f) told = absurd (never (lawful k (get_or j.slots (k - 1) d)) f told good)
+    go : (r : Result Entry Fault) → Answers (making_fault k e) (λ n. (n.number ≡ k) × (n.event ≡ e)) r → Reading es k r
+    go (Ok n) told = (told.1.0, at ∙ ap (λ v. Some v) (sym told.1.1))
+    go (Err f) told = absurd (never (lawful k e) f told good)
 
--- ---- outcomes
+-- ---- what is answered
 
-cons_some : (e : Event) (es : List Event) (o : Bool) → outcome_of e ≡ Some o → outcomes (e ∷ es) ≡ o ∷ outcomes es
-cons_some (E.Gate g) es o h = let z : ◌≡◌ {A = ℕ} 0 1 = cc in absurd (omega arith)
-cons_some (E.Conditional d k g q) es o h = let z : ◌≡◌ {A = ℕ} 0 1 = cc in absurd (omega arith)
-cons_some (E.Measurement m) es o h = let p : m.outcome ≡ o = cc in ap (λ x. x ∷ outcomes es) p
-
-cons_none : (e : Event) (es : List Event) → outcome_of e ≡ None → outcomes (e ∷ es) ≡ outcomes es
-cons_none (E.Gate g) es h = refl
-cons_none (E.Conditional d k g q) es h = refl
-cons_none (E.Measurement m) es h = let z : ◌≡◌ {A = ℕ} 0 1 = cc in absurd (omega arith)
-
--- the outcomes from the place i on
-module _ (j : Journal) (i : ℕ) (d : Event) (p : Option Bool) (h : i < j.len) (is : p ≡ outcome_of (get_or j.slots i d)) where
-  here : drop i (events j) ≡ get_or j.slots i d ∷ drop (i + 1) (events j)
-  here =
-      let n = length_events j in
-      drop_more (events j) i d (omega arith) ∙ ap (λ e. e ∷ drop (i + 1) (events j)) (get_or-take j.len j.slots i d h)
-
-  pub with_outcome : (o : Bool) → p ≡ Some o → outcomes (drop i (events j)) ≡ o ∷ outcomes (drop (i + 1) (events j))
-  with_outcome o e = ap outcomes here ∙ cons_some (get_or j.slots i d) (drop (i + 1) (events j)) o (sym is ∙ e)
-
-  pub without_outcome : p ≡ None → outcomes (drop i (events j)) ≡ outcomes (drop (i + 1) (events j))
-  without_outcome e = ap outcomes here ∙ cons_none (get_or j.slots i d) (drop (i + 1) (events j)) (sym is ∙ e)
-
-pub no_more : (j : Journal) (i left : ℕ) → j.len ≤ i → slice_get (outcomes (drop i (events j))) left ≡ None
-no_more j i left h = ap (λ l. slice_get (outcomes l) left) (drop_all i (events j) (omega (arith, length_events j)))
-
-pub step_over : (o : Bool) (os : List Bool) (k : ℕ) → 0 < k → slice_get (o ∷ os) k ≡ slice_get os (k - 1)
-step_over o os zero h = absurd (omega arith)
-step_over o os (suc k) h = let e : k ≡ suc k - 1 = omega arith in ap (slice_get os) e
-
-pub from_first : (os : List Bool) (k : ℕ) → (k ≡ 0 → ⊥) → kth os k ≡ slice_get os (k - 1)
-from_first os k h = kth_nth os k (omega arith)
+pub kth_answer : {X : Type 0} (xs : List X) (k before : ℕ) (f : Fault) (o : Option X) → 0 < k → before ≡ k - 1 → option_map (λ x. x) o ≡ slice_get xs before
+    → ok_or o f ≡ answer f (kth xs k)
+kth_answer {X} xs k before f o some is there = same o ∙ ap (answer f) (there ∙ sym (kth_after xs k before some is))
+  where
+    same : (o : Option X) → ok_or o f ≡ answer f (option_map (λ x. x) o)
+    same (Some x) = refl
+    same None = refl

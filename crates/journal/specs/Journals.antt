@@ -1,17 +1,12 @@
 -- What a journal holds, and what it answers.
-use Rattle.std.specs.Prelude.{◌≡◌, ℕ, zero, suc, ◌+◌, Bool, cond, List, [], ◌∷◌, length, take, Some, None, Ok, Err, Option, Result, nat_le}
+use Rattle.std.specs.Prelude.{◌≡◌, ℕ, zero, suc, ◌+◌, Bool, cond, List, length, filter_map, Some, None, Ok, Err, Option, Result, nat_le}
 use Rattle.std.specs.List.{slice_get}
 use Rattle.pauli.specs.declared.fault.Fault.{Fault}
 use Rattle.pauli.specs.declared.fault.Fault.TheVariants.{BadForm, JournalFull, NoEntry}
 use Rattle.journal_lines.specs.declared.entry.Entry.{Entry}
 use Rattle.journal_lines.specs.declared.event.Event.{Event}
 use Rattle.journal_lines.specs.declared.event.Event.TheVariants as E
-use Rattle.journal.specs.declared.journal.Journal.{Journal}
 use Rattle.journal_lines.specs.Lawful.{sound}
-
--- the events, in their order
-abbrev pub events : Journal → List Event
-events j = take j.len j.slots
 
 -- the outcome of an event, which only a measurement has
 abbrev pub outcome_of : Event → Option Bool
@@ -20,10 +15,7 @@ outcome_of (E.Conditional done outcome g q) = None
 outcome_of (E.Measurement m) = Some m.outcome
 
 abbrev pub outcomes : List Event → List Bool
-outcomes [] = []
-outcomes (E.Gate g ∷ es) = outcomes es
-outcomes (E.Conditional done outcome g q ∷ es) = outcomes es
-outcomes (E.Measurement m ∷ es) = m.outcome ∷ outcomes es
+outcomes = filter_map outcome_of
 
 -- the k-th, counted from 1
 abbrev pub kth : {X : Type 0} → List X → ℕ → Option X

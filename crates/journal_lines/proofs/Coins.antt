@@ -1,95 +1,111 @@
--- Coins read one by one, and `-` for none.
-use Rattle.std.proofs.Common.{◌≡◌, ℕ, zero, suc, ◌+◌, ◌*◌, ◌/◌, ◌%◌, ◌^◌, ◌<◌, ◌≤◌, List, ◌∷◌, ◌++◌, get_or, drop, Result, sym, refl, ap, ◌∙◌, subst, append_assoc, add-one, arith}
+-- Coins read all at once, and `-` for none.
+use Rattle.std.proofs.Common.{◌≡◌, ℕ, zero, suc, ◌+◌, ◌*◌, ◌/◌, ◌%◌, ◌^◌, ◌<◌, ◌≤◌, ◌==◌, true, cond, List, [], ◌∷◌, ◌++◌, length, get_or, drop, sym, refl, ap, ◌∙◌, subst, append_assoc, arith, pow_mono}
 use native.Mathlib.Nat.{pow-succ'}
-use Rattle.pauli.specs.declared.fault.Fault.{Fault}
-use Rattle.text.specs.Reading.{Hit, Miss, Reads}
-use Rattle.text.specs.Texts.{Any, one, num, Short, coins, coin_text}
-use Rattle.text.proofs.Places.{peel, unpeel, present}
-use Rattle.text.proofs.Words.{coin_some, coin_none}
-use Rattle.journal_lines.specs.Parts.{Bits, drawn_text, Drawn}
+use Rattle.std.proofs.lemmas.Bool.Decides.{nat_tests}
+use Rattle.text.specs.Reading.{Hit, Miss}
+use Rattle.text.specs.Texts.{Any, one, num, Short, is_coin, same, Coins, coins, coin_text}
+use Rattle.text.proofs.Words.{length_coins, coin_some, coin_none}
+use Rattle.journal_lines.specs.Parts.{Bits, word, drawn_text, Drawn}
 
-pow_two : (n : ℕ) → 2 ^ suc n ≡ 2 * 2 ^ n
-pow_two n = pow-succ' 2 n
+-- ---- coins as digits, and back
 
-coins_more : (n c p : ℕ) → p < 2 → coins (n + 1) (2 * c + p) ≡ (48 + p) ∷ coins n c
-coins_more n c p h =
-    let a : (2 * c + p) % 2 ≡ p = omega arith in
-    let b : (2 * c + p) / 2 ≡ c = omega arith in
-    ap (λ i. coins i (2 * c + p)) (add-one n) ∙ (λ i. (48 + a i) ∷ coins n (b i))
+bit_below : (d : ℕ) → cond (d == 49) 1 0 ≤ 1
+bit_below d = grind (arith, nat_tests)
 
-module _ (t : List ℕ) (at end : ℕ) where
-  seen_none : (n c : ℕ) (rest : List ℕ) → n ≡ 0 → c < 2 ^ n → drop at t ≡ coins n c ++ end ∷ rest → (c ≡ 0) × (get_or t at 0 ≡ end) × (drop (at + 1) t ≡ rest)
-  seen_none zero c rest e h d = let p = peel t at (at + 1) end rest refl d in (omega arith, p.0, p.1)
-  seen_none (suc m) c rest e h d = absurd (omega arith)
+word_below : (l : List ℕ) → word l < 2 ^ length l
+word_below [] = omega arith
+word_below (d ∷ ds) = omega (arith, pow-succ' 2 (length ds), word_below ds, bit_below d)
 
-  seen_coin : (n m c : ℕ) (rest : List ℕ) → n ≡ m + 1 → c < 2 ^ n → drop at t ≡ coins n c ++ end ∷ rest → (c / 2 < 2 ^ m) × (get_or t at 0 ≡ 48 + c % 2) × (drop (at + 1) t ≡ coins m (c / 2) ++ end ∷ rest)
-  seen_coin zero m c rest e h d = absurd (omega arith)
-  seen_coin (suc k) m c rest e h d =
-      let p = peel t at (at + 1) (48 + c % 2) (coins k (c / 2) ++ end ∷ rest) refl d in
-      let s : k ≡ m = omega arith in
-      let q = ap (λ i. 2 ^ i) s in
-      (omega (arith, pow_two k), p.0, p.1 ∙ ap (λ i. coins i (c / 2) ++ end ∷ rest) s)
+-- so all but the first of 64 leave room for one more
+pub word_room : (l : List ℕ) → length l < 64 → word l < 2 ^ 63
+word_room l h = let more : 2 ^ length l ≤ 2 ^ 63 = pow_mono {i = length l} {j = 63} (omega arith) in omega (arith, word_below l)
 
-  pub hit_end : (n : ℕ) → 0 < end → n ≡ 0 → get_or t at 0 ≡ end → Hit (coins n) (Bits n) end t at 0 (at + 1)
-  hit_end zero stop z e =
-      let l = present t at (omega arith) in
-      record {
-        law = omega arith;
-        within = omega arith;
-        is = unpeel t at (at + 1) end _ refl l e refl;
-        only = λ b rest h d. let s = seen_none 0 b rest refl h d in (s.0, sym s.2);
-      }
-  hit_end (suc n) stop z e = absurd (omega arith)
+coins_are : (n c : ℕ) → Coins (coins n c)
+coins_are n c = record { each = go n c }
+  where
+    digit : (b : ℕ) → b < 2 → is_coin (48 + b) ≡ true
+    digit b h = grind (arith, nat_tests)
 
-  pub miss_end : (n : ℕ) → n ≡ 0 → (get_or t at 0 ≡ end → ⊥) → Miss (coins n) (Bits n) end t at
-  miss_end n z other = record { never = λ c rest h d. other (seen_none n c rest z h d).1 }
+    go : (n c i : ℕ) → i < length (coins n c) → is_coin (get_or (coins n c) i 0) ≡ true
+    go zero c i h = absurd (omega arith)
+    go (suc n) c zero h = digit (c % 2) (omega arith)
+    go (suc n) c (suc i) h = go n (c / 2) i (omega arith)
 
-  pub hit_coin : (n m p c to : ℕ) → n ≡ m + 1 → p < 2 → get_or t at 0 ≡ 48 + p → Hit (coins m) (Bits m) end t (at + 1) c to → Hit (coins n) (Bits n) end t at (2 * c + p) to
-  hit_coin n m p c to e h g hit =
-      let l = present t at (omega arith) in
-      let v = hit.law in
-      let q = ap (λ i. 2 ^ i) (e ∙ add-one m) ∙ pow_two m in
-      record {
-        law = omega arith;
-        within = hit.within;
-        is =
-            unpeel t at (at + 1) (48 + p) _ refl l g hit.is ∙ ap (λ l. l ++ end ∷ drop to t) (sym (coins_more m c p h))
-            ∙ ap (λ i. coins i (2 * c + p) ++ end ∷ drop to t) (sym e);
-        only = λ b rest f d.
-            let s = seen_coin n m b rest e f d in
-            let o = hit.only (b / 2) rest s.0 s.2 in
-            (omega (arith, s.1, o.0), o.1);
-      }
+word_back : (n c : ℕ) → c < 2 ^ n → word (coins n c) ≡ c
+word_back zero c h = omega arith
+word_back (suc n) c h =
+    let rest = word_back n (c / 2) (omega (arith, pow-succ' 2 n)) in
+    let first : cond ((48 + c % 2) == 49) 1 0 ≡ c % 2 = digit (c % 2) (omega arith) in
+    omega (arith, rest, first)
+  where
+    digit : (b : ℕ) → b < 2 → cond ((48 + b) == 49) 1 0 ≡ b
+    digit b h = grind (arith, nat_tests)
 
-  pub miss_digit : (n m : ℕ) → n ≡ m + 1 → (get_or t at 0 ≡ 48 → ⊥) → (get_or t at 0 ≡ 49 → ⊥) → Miss (coins n) (Bits n) end t at
-  miss_digit n m e a b = record { never = λ c rest h d. let s = (seen_coin n m c rest e h d).1 in go c s }
-    where
-      go : (c : ℕ) → get_or t at 0 ≡ 48 + c % 2 → ⊥
-      go c s = a (omega (arith, s, b))
+coins_back : (l : List ℕ) → ((i : ℕ) → i < length l → is_coin (get_or l i 0) ≡ true) → coins (length l) (word l) ≡ l
+coins_back [] each = refl
+coins_back (d ∷ ds) each =
+    let low = bit_below d in
+    let first : 48 + (2 * word ds + cond (d == 49) 1 0) % 2 ≡ d = digit d (word ds) (each 0 (omega arith)) in
+    let half : (2 * word ds + cond (d == 49) 1 0) / 2 ≡ word ds = omega arith in
+    (λ i. first i ∷ coins (length ds) (half i)) ∙ ap (λ (r : List ℕ). d ∷ r) (coins_back ds (λ i h. each (suc i) (omega arith)))
+  where
+    digit : (d w : ℕ) → is_coin d ≡ true → 48 + (2 * w + cond (d == 49) 1 0) % 2 ≡ d
+    digit d w h = grind (arith, nat_tests)
 
-  pub miss_coin : (n m : ℕ) → n ≡ m + 1 → Miss (coins m) (Bits m) end t (at + 1) → Miss (coins n) (Bits n) end t at
-  miss_coin n m e miss = record { never = λ c rest h d. let s = seen_coin n m c rest e h d in miss.never (c / 2) rest s.0 s.2 }
+-- ---- where a field is so many coins
 
-  -- with `-` for none
-  pub reads_some : (n : ℕ) (r : Result (ℕ × ℕ) Fault) → 0 < n → Reads (coins n) (Bits n) end t at r → Reads (coin_text n) (Bits n) end t at r
-  reads_some n r h f = subst (λ w. Reads w (Bits n) end t at r) (sym (coin_some n h)) f
+coins_seen : (n c : ℕ) (here rest : List ℕ) → 0 < n → here ≡ coin_text n c ++ 10 ∷ rest → here ≡ coins n c ++ 10 ∷ rest
+coins_seen n c here rest some d = d ∙ ap (λ f. f c ++ 10 ∷ rest) (coin_some n some)
 
-  pub hit_dash : (n b to : ℕ) → n ≡ 0 → b ≡ 45 → Hit one Any end t at b to → Hit (coin_text n) (Bits n) end t at 0 to
-  hit_dash zero b to z e h = record {
-    law = omega arith;
-    within = h.within;
-    is = h.is ∙ ap (λ c. c ∷ end ∷ drop to t) e ∙ ap (λ l. l ++ end ∷ drop to t) (sym (coin_none 0 0 refl));
-    only = λ c rest l d. let o = h.only 45 rest tt (d ∙ ap (λ l. l ++ end ∷ rest) (coin_none 0 c refl)) in (omega arith, o.1);
-  }
-  hit_dash (suc n) b to z e h = absurd (omega arith)
+module _ (n : ℕ) (some : 0 < n) {t : List ℕ} {at : ℕ} where
+  pub coins_miss : Miss same Coins 10 t at → Miss (coin_text n) (Bits n) 10 t at
+  coins_miss miss = record { never = λ c rest h d. miss.never (coins n c) rest (coins_are n c) (coins_seen n c _ rest some d) }
 
-  pub miss_dash : (n : ℕ) → n ≡ 0 → Miss one Any end t at → Miss (coin_text n) (Bits n) end t at
-  miss_dash n z miss = record { never = λ c rest h d. miss.never 45 rest tt (d ∙ ap (λ l. l ++ end ∷ rest) (coin_none n c z)) }
+  module _ {l : List ℕ} {to : ℕ} (hit : Hit same Coins 10 t at l to) where
+    pub coins_other : (length l ≡ n → ⊥) → Miss (coin_text n) (Bits n) 10 t at
+    coins_other other = record {
+      never = λ c rest h d.
+          let o = hit.only (coins n c) rest (coins_are n c) (coins_seen n c _ rest some d) in
+          other (ap length (sym o.0) ∙ length_coins n c);
+    }
 
-  pub not_dash : (n b to : ℕ) → n ≡ 0 → (b ≡ 45 → ⊥) → Hit one Any end t at b to → Miss (coin_text n) (Bits n) end t at
-  not_dash n b to z other h = record { never = λ c rest l d. other (sym (h.only 45 rest tt (d ∙ ap (λ l. l ++ end ∷ rest) (coin_none n c z))).0) }
+    pub coins_hit : (w : ℕ) → length l ≡ n → w ≡ word l → Hit (coin_text n) (Bits n) 10 t at w to
+    coins_hit w long is =
+        let back : coins n w ≡ l = (λ i. coins (sym long i) (is i)) ∙ coins_back l hit.law.each in
+        record {
+          law = subst (λ k. w < 2 ^ k) long (subst (λ v. v < 2 ^ length l) (sym is) (word_below l));
+          within = hit.within;
+          is = hit.is ∙ ap (λ x. x ++ 10 ∷ drop to t) (sym back ∙ ap (λ f. f w) (sym (coin_some n some)));
+          only = λ c rest h d.
+              let o = hit.only (coins n c) rest (coins_are n c) (coins_seen n c _ rest some d) in
+              (sym (word_back n c h) ∙ ap word o.0 ∙ sym is, o.1);
+        }
 
--- a count, and as many coins
+-- ---- where it is `-`
+
+dash_seen : (n c : ℕ) (here rest : List ℕ) → n ≡ 0 → here ≡ coin_text n c ++ 10 ∷ rest → here ≡ one 45 ++ 10 ∷ rest
+dash_seen n c here rest none d = d ∙ ap (λ l. l ++ 10 ∷ rest) (coin_none n c none)
+
+module _ (n : ℕ) (none : n ≡ 0) {t : List ℕ} {at : ℕ} where
+  pub dash_miss : Miss one Any 10 t at → Miss (coin_text n) (Bits n) 10 t at
+  dash_miss miss = record { never = λ c rest h d. miss.never 45 rest tt (dash_seen n c _ rest none d) }
+
+  module _ {b to : ℕ} (hit : Hit one Any 10 t at b to) where
+    pub dash_not : (b ≡ 45 → ⊥) → Miss (coin_text n) (Bits n) 10 t at
+    dash_not other = record { never = λ c rest h d. other (sym (hit.only 45 rest tt (dash_seen n c _ rest none d)).0) }
+
+    pub dash_hit : b ≡ 45 → Hit (coin_text n) (Bits n) 10 t at 0 to
+    dash_hit is =
+        let few : 2 ^ n ≡ 1 = ap (λ k. 2 ^ k) none in
+        record {
+          law = omega arith;
+          within = hit.within;
+          is = hit.is ∙ ap (λ x. x ++ 10 ∷ drop to t) (ap one is ∙ sym (coin_none n 0 none));
+          only = λ c rest h d. (omega arith, (hit.only 45 rest tt (dash_seen n c _ rest none d)).1);
+        }
+
+-- ---- a count, and as many coins
+
 module _ (t : List ℕ) (at : ℕ) where
   pub drawn_first : Miss num Short 44 t at → Miss drawn_text Drawn 10 t at
   drawn_first miss = record {

@@ -1,8 +1,8 @@
 -- Entries and their lines: what is lawful can be read, and the line of an entry is its number and its event.
-use Rattle.std.proofs.Common.{◌≡◌, ℕ, ◌^◌, ◌<◌, ◌≤◌, Bool, true, false, cond, ◌&&◌, ltb, List, [], ◌∷◌, ◌++◌, length, drop, Some, None, Ok, sym, refl, ap, ◌∙◌, append_assoc, arith, length-append, length-drop}
+use Rattle.std.proofs.Common.{◌≡◌, ℕ, ◌^◌, ◌<◌, ◌≤◌, Bool, true, false, cond, ◌&&◌, ltb, List, [], ◌∷◌, ◌++◌, length, drop, Some, None, sym, refl, ap, ◌∙◌, append_assoc, arith, length-append, length-drop}
 use mathlib.Core.HLevel.{is_prop→PathP}
 use mathlib.Core.Bool.{Bool-set}
-use Rattle.std.proofs.lemmas.List.{drop_all, append-nil}
+use Rattle.std.proofs.lemmas.List.{append-nil}
 use Rattle.std.proofs.lemmas.Bool.{and_parts, ltb-true, both_ways}
 use Rattle.std.proofs.lemmas.Bool.Decides.{nat_tests}
 use Rattle.pauli.specs.declared.fault.Fault.{Fault}
@@ -20,7 +20,7 @@ use Rattle.journal_lines.specs.declared.entry.Entry.{Entry}
 use Rattle.journal_lines.specs.declared.event.Event.{Event}
 use Rattle.journal_lines.specs.declared.event.Event.TheVariants as E
 use Rattle.journal_lines.specs.declared.event.Measurement.{Measurement}
-use Rattle.journal_lines.specs.Entries.{entry_line, ReadsEntry}
+use Rattle.journal_lines.specs.Entries.{entry_line}
 use Rattle.journal_lines.specs.Lawful.{count_ok, first_ok, measured_ok, numbered, sound, lawful, making_fault}
 use Rattle.journal_lines.specs.Lines.{line}
 use Rattle.journal_lines.specs.Parts.{Measured, event_text, Readable}
@@ -84,11 +84,6 @@ line_rest f rest =
     ∙ ap (λ l. num f.number ++ 44 ∷ l) (append_assoc (event_text f.event) (10 ∷ []) rest)
 
 module _ (t : List ℕ) (at : ℕ) where
-  pub no_number : Miss num Short 44 t at → (f : Entry) (rest : List ℕ) → drop at t ≡ entry_line f ++ rest → ⊥
-  no_number miss f rest e =
-      let l = and_parts (numbered f.number) (sound f.number f.event) f.lawful in
-      miss.never f.number (event_text f.event ++ 10 ∷ rest) (number_read f.number l.0) (e ∙ line_rest f rest)
-
   module _ (n from : ℕ) (number : Hit num Short 44 t at n from) where
     entry_seen : (f : Entry) (rest : List ℕ) → drop at t ≡ entry_line f ++ rest → (f.number ≡ n) × Readable f.event × (drop from t ≡ event_text f.event ++ 10 ∷ rest)
     entry_seen f rest e =
@@ -121,7 +116,9 @@ module _ (t : List ℕ) (at : ℕ) where
           unlawful false e t = both_ways false refl t
 
       -- and one whose entry is
-      pub read_entry : (e : Entry) → e.number ≡ n → e.event ≡ v → ReadsEntry t at (Ok (e, to))
+      pub read_entry : (e : Entry) → e.number ≡ n → e.event ≡ v
+          → (at < to) × (to ≤ length t) × (drop at t ≡ entry_line e ++ drop to t)
+          × ((f : Entry) (rest : List ℕ) → drop at t ≡ entry_line f ++ rest → (f ≡ e) × (rest ≡ drop to t))
       read_entry e p q =
           let is : drop at t ≡ entry_line e ++ drop to t
           = number.is ∙ ap (λ x. num n ++ 44 ∷ x) event.is ∙ (λ i. num (sym p i) ++ 44 ∷ (event_text (sym q i) ++ 10 ∷ drop to t)) ∙ sym (line_rest e (drop to t)) in
@@ -134,16 +131,10 @@ module _ (t : List ℕ) (at : ℕ) where
                 let o = entry_only f rest g in (entry_same f e (o.0 ∙ sym p) (o.1 ∙ sym q), o.2),
           )
 
--- a whole text: the line that begins it ends it
-pub whole_line : (t : List ℕ) (e : Entry) (to : ℕ) → length t ≤ to → ReadsEntry t 0 (Ok (e, to)) → (t ≡ entry_line e) × ((f : Entry) → t ≡ entry_line f → f ≡ e)
-whole_line t e to h told = (
-  told.2 ∙ ap (λ x. entry_line e ++ x) (drop_all to t h) ∙ append-nil (entry_line e),
-  λ f g. (told.3 f [] (g ∙ sym (append-nil (entry_line f)))).0,
-)
-
--- and a longer text is no line
-pub not_whole : (t : List ℕ) (e : Entry) (to : ℕ) → to < length t → ReadsEntry t 0 (Ok (e, to)) → (f : Entry) → t ≡ entry_line f → ⊥
-not_whole t e to h told f g = let o = told.3 f [] (g ∙ sym (append-nil (entry_line f))) in omega (arith, ap length o.1, length-drop to t)
+-- where a text is longer than the line that begins it, it is no line
+pub not_whole : (t : List ℕ) (e : Entry) (to : ℕ) → ((f : Entry) (rest : List ℕ) → t ≡ entry_line f ++ rest → (f ≡ e) × (rest ≡ drop to t)) → to < length t
+    → (f : Entry) → t ≡ entry_line f → ⊥
+not_whole t e to only h f g = let o = only f [] (g ∙ sym (append-nil (entry_line f))) in omega (arith, ap length o.1, length-drop to t)
 
 pub no_whole : (t : List ℕ) → ((f : Entry) (rest : List ℕ) → t ≡ entry_line f ++ rest → ⊥) → (f : Entry) → t ≡ entry_line f → ⊥
 no_whole t none f g = none f [] (g ∙ sym (append-nil (entry_line f)))

@@ -1,5 +1,5 @@
 -- What stands behind an entry's number: by its first byte a gate, a conditional gate or a measurement.
-use Rattle.std.proofs.Common.{◌≡◌, ℕ, Bool, true, false, List, ◌∷◌, ◌++◌, drop, sym, refl, ap, ◌∙◌, arith}
+use Rattle.std.proofs.Common.{◌≡◌, ℕ, ◌==◌, ◌⊎◌, Bool, true, false, List, ◌∷◌, ◌++◌, drop, sym, refl, ap, ◌∙◌, inl, inr, arith}
 use Rattle.pauli.specs.declared.gate.OneQubit.{OneQubit}
 use Rattle.text.specs.Reading.{Hit, Miss}
 use Rattle.text.specs.Texts.{Any, one, gate_text}
@@ -14,6 +14,10 @@ done_same true true e = refl
 done_same true false e = absurd (omega arith)
 done_same false true e = absurd (omega arith)
 done_same false false e = refl
+
+pub marked : (k : ℕ) → (k ≡ 68) ⊎ (k ≡ 80) → k ≡ done_mark (k == 68)
+marked k (inl e) = e ∙ ap (λ (n : ℕ). done_mark (n == 68)) (sym e)
+marked k (inr e) = e ∙ ap (λ (n : ℕ). done_mark (n == 68)) (sym e)
 
 pub not_gate : (d : Bool) → 71 ≡ done_mark d → ⊥
 not_gate true e = omega arith

@@ -1,4 +1,3 @@
-mod Powers
 mod Coins
 mod Labels
 mod Measured

@@ -1,5 +1,5 @@
 -- The parts of a line behind the entry's number, as its readers take them: the text of each, and which values it is read for.
-use Rattle.std.specs.Prelude.{◌≡◌, ℕ, ◌^◌, ◌<◌, ◌≤◌, Bool, true, List, ◌∷◌, ◌++◌}
+use Rattle.std.specs.Prelude.{◌≡◌, ℕ, ◌+◌, ◌*◌, ◌^◌, ◌<◌, ◌≤◌, ◌==◌, Bool, true, cond, List, [], ◌∷◌, ◌++◌}
 use Rattle.pauli.specs.declared.case.Case.{Case}
 use Rattle.pauli.specs.declared.gate.OneQubit.{OneQubit}
 use Rattle.pauli.specs.declared.label.Label.{Label}
@@ -28,6 +28,11 @@ pub record Sized (p : ℕ × Label) : Type 0 where
 -- coins of a known count
 abbrev pub Bits : ℕ → ℕ → Type 0
 Bits n c = c < 2 ^ n
+
+-- the coins that digits are, the first in the lowest bit
+abbrev pub word : List ℕ → ℕ
+word [] = 0
+word (d ∷ ds) = 2 * word ds + cond (d == 49) 1 0
 
 -- a count of coins, and the coins
 abbrev pub drawn_text : ℕ × ℕ → List ℕ

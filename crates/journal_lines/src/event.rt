@@ -5,7 +5,7 @@ use pauli::label::Label;
 
 #[derive(Clone, Copy, PartialEq, Eq, Debug)]
 pub struct Measurement {
-    // True for minus.
+    // True for minus. Signs and outcomes are bits that are added.
     pub sign: bool,
     // How many letters the label has.
     pub size: u32,
@@ -20,7 +20,7 @@ pub struct Measurement {
 #[derive(Clone, Copy, PartialEq, Eq, Debug)]
 pub enum Event {
     Gate(Gate),
-    // A one-qubit gate that asked for an outcome by its number: done if that outcome was 1, else passed over.
+    // A one-qubit gate that asked for an outcome by its number. `done` is that outcome: the gate was done if it was 1, else passed over.
     Conditional {
         done: bool,
         outcome: u32,

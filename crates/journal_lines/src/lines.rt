@@ -10,8 +10,9 @@ use crate::parts;
 use pauli::fault::Fault;
 use pauli::gate::Gate;
 use text::end::End;
+use text::read::Fields;
+use text::write;
 use text::write::Field;
-use text::{read, write};
 
 // How many bytes the longest line has: 64 letters in Case 3, with 63 coins.
 pub const LONGEST_LINE: usize = 144;
@@ -71,14 +72,16 @@ impl Entry {
         }
     }
 
-    // The entry whose line begins at a place of a text, and the place after the line.
-    pub fn read_at(text: &[u8], at: usize) -> Result<(Entry, usize), Fault>
-        ensures { ReadsEntry text.now at result }
+    // The entry whose line begins at the place, and the place moves past the line. Where no entry's line begins, it stays.
+    pub fn read(fields: &mut Fields) -> Result<Entry, Fault>
+        ensures { ReadsEntry fields.old result fields.new }
     {
-        let (number, from) = read::number(text, at, End::Comma)?;
-        let (event, to) = parts::event(text, from)?;
+        let mut line = *fields;
+        let number = line.number(End::Comma)?;
+        let event = parts::event(&mut line)?;
         let entry = Entry::new(number, event)?;
-        Ok((entry, to))
+        *fields = line;
+        Ok(entry)
     }
 
     // The entry whose line a text is. Every text that is no lawful entry's line is refused.
@@ -87,8 +90,9 @@ impl Entry {
         ensures back { (e : Entry) → text.now ≡ entry_line e → result ≡ Ok e }
         ensures fault { IfErr result (λ f. f ≡ Fault.BadForm) }
     {
-        let (entry, to) = Entry::read_at(text, 0)?;
-        if to < text.len() {
+        let mut fields = Fields { text, at: 0 };
+        let entry = Entry::read(&mut fields)?;
+        if fields.at < text.len() {
             return Err(Fault::BadForm);
         }
         Ok(entry)
@@ -102,7 +106,7 @@ pub fn lines_tell_entries() -> u8
     0
 }
 
-// A buffer of this many bytes has room for every line.
+// A buffer of this many bytes has room for every line. (A constant cannot promise it.)
 pub fn longest_line() -> usize
     ensures is { result ≡ 144 }
     ensures longest { Longest result }

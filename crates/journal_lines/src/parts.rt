@@ -1,174 +1,127 @@
-// Readers of what stands behind an entry's number in its line.
-ghost use Rattle.std.specs.Prelude.{◌≡◌, ℕ, ◌≤◌};
-ghost use Rattle.text.specs.Reading.{Reads};
-ghost use Rattle.text.specs.Texts.{Any, coins as coins_of, coin_text};
-ghost use Rattle.journal_lines.specs.Parts.{case_text, bit_text, sized_text, Sized, Bits, drawn_text, Drawn, measured_text, Measured, asked_text, Asked, event_text, Readable};
+// Readers of what stands behind an entry's number in its line. Where one refuses, its place may be anywhere in the line.
+ghost use Rattle.std.specs.Prelude.{◌≡◌, ◌≤◌, length};
+ghost use Rattle.text.specs.Reading.{Takes};
+ghost use Rattle.text.specs.Texts.{Any, coin_text};
+ghost use Rattle.journal_lines.specs.Parts.{case_text, bit_text, sized_text, Sized, Bits, word, drawn_text, Drawn, measured_text, Measured, event_text, Readable};
 
 use crate::event::{Event, Measurement};
 use pauli::case::Case;
 use pauli::fault::Fault;
-use pauli::gate::OneQubit;
 use pauli::label::Label;
 use text::end::End;
-use text::read;
+use text::read::Fields;
 
-fn case(t: &[u8], at: usize) -> Result<(Case, usize), Fault>
-    ensures { Reads case_text Any 44 t.now at result }
+fn case(fields: &mut Fields) -> Result<Case, Fault>
+    ensures { Takes case_text Any 44 fields.old result fields.new }
 {
-    let (number, to) = read::number(t, at, End::Comma)?;
-    match number {
-        1 => Ok((Case::One, to)),
-        2 => Ok((Case::Two, to)),
-        3 => Ok((Case::Three, to)),
-        4 => Ok((Case::Four, to)),
+    Case::try_from(fields.number(End::Comma)?)
+}
+
+// An outcome. Its digits are the bit itself, and no code for something else.
+fn bit(fields: &mut Fields) -> Result<bool, Fault>
+    ensures { Takes bit_text Any 44 fields.old result fields.new }
+{
+    match fields.number(End::Comma)? {
+        0 => Ok(false),
+        1 => Ok(true),
         _ => Err(Fault::BadForm),
     }
 }
 
-// An outcome.
-fn bit(t: &[u8], at: usize) -> Result<(bool, usize), Fault>
-    ensures { Reads bit_text Any 44 t.now at result }
+// One to 64 letters: how many, and their label. (`carry` reads the same, but refuses more letters by the number of bad sizes.)
+fn sized(fields: &mut Fields) -> Result<(u32, Label), Fault>
+    ensures { Takes sized_text Sized 44 fields.old result fields.new }
 {
-    let (number, to) = read::number(t, at, End::Comma)?;
-    match number {
-        0 => Ok((false, to)),
-        1 => Ok((true, to)),
-        _ => Err(Fault::BadForm),
-    }
-}
-
-// One to 64 letters: how many, and their label.
-fn sized(t: &[u8], at: usize) -> Result<((u32, Label), usize), Fault>
-    ensures { Reads sized_text Sized 44 t.now at result }
-{
-    let (letters, to) = read::letters(t, at, End::Comma)?;
+    let letters = fields.letters(End::Comma)?;
     if letters.len() > 64 {
         return Err(Fault::BadForm);
     }
     let size = letters.len() as u32;
     let label = Label::from_letters(size, letters)?;
-    Ok(((size, label), to))
+    Ok((size, label))
 }
 
-// Just `count` coins.
-fn coins(t: &[u8], at: usize, count: u32) -> Result<(u64, usize), Fault>
-    requires { count ≤ 64 }
-    ensures { Reads (coins_of count) (Bits count) 10 t.now at result }
+// The coins that these digits are, the first in the lowest bit. By recursion, since the closure of a `fold` cannot see that
+// no sum is too large.
+#[tactic(auto, using(crate::proofs::Coins::word_room))]
+fn word_of(digits: &[u8]) -> u64
+    requires { length digits.now ≤ 64 }
+    ensures { result ≡ word digits.now }
 {
-    if at >= t.len() {
-        return Err(Fault::BadForm);
+    match digits {
+        [] => 0,
+        [first, rest @ ..] => 2 * word_of(rest) + u64::from(*first == b'1'),
     }
-    let b = t[at];
+}
+
+// Just `count` coins, or `-` for none.
+fn coins(fields: &mut Fields, count: u32) -> Result<u64, Fault>
+    requires { count ≤ 64 }
+    ensures { Takes (coin_text count) (Bits count) 10 fields.old result fields.new }
+{
     if count == 0 {
-        if b != b'\n' {
-            return Err(Fault::BadForm);
-        }
-        return Ok((0, at + 1));
+        return match fields.byte(End::LineFeed)? {
+            b'-' => Ok(0),
+            _ => Err(Fault::BadForm),
+        };
     }
-    if b != b'0' && b != b'1' {
+    let digits = fields.coins(End::LineFeed)?;
+    if digits.len() != count as usize {
         return Err(Fault::BadForm);
     }
-    let (rest, to) = coins(t, at + 1, count - 1)?;
-    Ok((2 * rest + u64::from(b - b'0'), to))
-}
-
-// The same, with `-` for no coins.
-fn coin_field(t: &[u8], at: usize, count: u32) -> Result<(u64, usize), Fault>
-    requires { count ≤ 64 }
-    ensures { Reads (coin_text count) (Bits count) 10 t.now at result }
-{
-    if count > 0 {
-        return coins(t, at, count);
-    }
-    let (b, to) = read::byte(t, at, End::LineFeed)?;
-    if b != b'-' {
-        return Err(Fault::BadForm);
-    }
-    Ok((0, to))
+    Ok(word_of(digits))
 }
 
 // A count of coins, and the coins.
-fn drawn(t: &[u8], at: usize) -> Result<((u32, u64), usize), Fault>
-    ensures { Reads drawn_text Drawn 10 t.now at result }
+fn drawn(fields: &mut Fields) -> Result<(u32, u64), Fault>
+    ensures { Takes drawn_text Drawn 10 fields.old result fields.new }
 {
-    let (count, from) = read::number(t, at, End::Comma)?;
+    let count = fields.number(End::Comma)?;
     if count > 64 {
         return Err(Fault::BadForm);
     }
-    let (word, to) = coin_field(t, from, count)?;
-    Ok(((count, word), to))
+    let word = coins(fields, count)?;
+    Ok((count, word))
 }
 
 // A measurement's sign, letters, case, outcome, count of coins and coins.
-fn measurement(t: &[u8], at: usize) -> Result<(Measurement, usize), Fault>
-    ensures { Reads measured_text Measured 10 t.now at result }
+fn measurement(fields: &mut Fields) -> Result<Measurement, Fault>
+    ensures { Takes measured_text Measured 10 fields.old result fields.new }
 {
-    let (sign, at) = read::sign(t, at, End::Comma)?;
-    let ((size, label), at) = sized(t, at)?;
-    let (case, at) = case(t, at)?;
-    let (outcome, at) = bit(t, at)?;
-    let ((count, coins), to) = drawn(t, at)?;
-    Ok((
-        Measurement {
-            sign,
-            size,
-            label,
-            case,
-            outcome,
-            count,
-            coins,
-        },
-        to,
-    ))
-}
-
-// The number of the outcome that a conditional gate asked for, and the gate.
-fn asked(t: &[u8], at: usize) -> Result<((u32, (OneQubit, u32)), usize), Fault>
-    ensures { Reads asked_text Asked 10 t.now at result }
-{
-    let (outcome, from) = read::number(t, at, End::Comma)?;
-    let (turn, to) = read::one_qubit(t, from, End::LineFeed)?;
-    Ok(((outcome, turn), to))
+    let sign = fields.sign(End::Comma)?;
+    let (size, label) = sized(fields)?;
+    let case = case(fields)?;
+    let outcome = bit(fields)?;
+    let (count, coins) = drawn(fields)?;
+    Ok(Measurement {
+        sign,
+        size,
+        label,
+        case,
+        outcome,
+        count,
+        coins,
+    })
 }
 
 // All that stands behind an entry's number.
-pub(crate) fn event(t: &[u8], at: usize) -> Result<(Event, usize), Fault>
-    ensures { Reads event_text Readable 10 t.now at result }
+pub(crate) fn event(fields: &mut Fields) -> Result<Event, Fault>
+    ensures { Takes event_text Readable 10 fields.old result fields.new }
 {
-    let (kind, from) = read::byte(t, at, End::Comma)?;
+    let kind = fields.byte(End::Comma)?;
     match kind {
-        b'G' => {
-            let (gate, to) = read::gate(t, from, End::LineFeed)?;
-            Ok((Event::Gate(gate), to))
+        b'G' => Ok(Event::Gate(fields.gate(End::LineFeed)?)),
+        b'D' | b'P' => {
+            let outcome = fields.number(End::Comma)?;
+            let (gate, qubit) = fields.one_qubit(End::LineFeed)?;
+            Ok(Event::Conditional {
+                done: kind == b'D',
+                outcome,
+                gate,
+                qubit,
+            })
         }
-        b'D' => {
-            let ((outcome, (gate, qubit)), to) = asked(t, from)?;
-            Ok((
-                Event::Conditional {
-                    done: true,
-                    outcome,
-                    gate,
-                    qubit,
-                },
-                to,
-            ))
-        }
-        b'P' => {
-            let ((outcome, (gate, qubit)), to) = asked(t, from)?;
-            Ok((
-                Event::Conditional {
-                    done: false,
-                    outcome,
-                    gate,
-                    qubit,
-                },
-                to,
-            ))
-        }
-        b'M' => {
-            let (m, to) = measurement(t, from)?;
-            Ok((Event::Measurement(m), to))
-        }
+        b'M' => Ok(Event::Measurement(measurement(fields)?)),
         _ => Err(Fault::BadForm),
     }
 }

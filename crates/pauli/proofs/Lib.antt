@@ -1,2 +1,2 @@
-mod Words
-mod Texts
+pub mod Words
+pub mod Texts

@@ -16,6 +16,14 @@ use Rattle.pauli.specs.Bits.{xorb, bit_of, with_bit}
 use Rattle.pauli.specs.Labels.{at, put, size_ok, on_board}
 use Rattle.pauli.specs.Rows.{row}
 
+-- the name of a one-qubit gate, one letter in ASCII
+abbrev pub gate_byte : OneQubit → ℕ
+gate_byte G.H = 72
+gate_byte G.S = 83
+gate_byte G.X = 88
+gate_byte G.Y = 89
+gate_byte G.Z = 90
+
 abbrev plain : Letter → Image
 plain l = record { letter = l; sign = false }
 

@@ -1,5 +1,6 @@
 -- The four letters: their two bits, and how they are written.
-use Rattle.std.specs.Prelude.{ℕ, Bool, true, false, cond, ◌&&◌, ◌||◌, List, [], ◌∷◌, Ok, Err, Result, ◌==◌}
+use Rattle.std.specs.List.{list_all}
+use Rattle.std.specs.Prelude.{ℕ, Bool, true, false, cond, ◌||◌, List, Ok, Err, Result, ◌==◌}
 use Rattle.pauli.specs.declared.fault.Fault.{Fault}
 use Rattle.pauli.specs.declared.fault.Fault.TheVariants.{BadForm}
 use Rattle.pauli.specs.declared.letter.Letter.{Letter}
@@ -43,5 +44,4 @@ abbrev pub is_letter : ℕ → Bool
 is_letter c = (c == 73 || c == 88) || (c == 89 || c == 90)
 
 abbrev pub all_letters : List ℕ → Bool
-all_letters [] = true
-all_letters (c ∷ cs) = is_letter c && all_letters cs
+all_letters = list_all is_letter

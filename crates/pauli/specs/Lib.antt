@@ -1,5 +1,6 @@
 pub mod Faults
 pub mod Cases
+pub mod Names
 pub mod Bits
 pub mod Letters
 pub mod Labels

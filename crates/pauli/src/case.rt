@@ -1,13 +1,16 @@
 // The four ways in which a measured label can stand to a point's values.
 ghost use Rattle.std.specs.Prelude.{◌≡◌};
 ghost use Rattle.pauli.specs.Cases.{case_number};
+ghost use Rattle.pauli.specs.Names.{Named};
+
+use crate::fault::Fault;
 
 #[derive(Clone, Copy, PartialEq, Eq, Debug)]
 pub enum Case {
-    One,
-    Two,
-    Three,
-    Four,
+    One = 1,
+    Two = 2,
+    Three = 3,
+    Four = 4,
 }
 
 impl Case {
@@ -15,11 +18,22 @@ impl Case {
     pub fn number(self) -> u32
         ensures { result ≡ case_number self }
     {
-        match self {
-            Case::One => 1,
-            Case::Two => 2,
-            Case::Three => 3,
-            Case::Four => 4,
+        self as u32
+    }
+}
+
+impl TryFrom<u32> for Case {
+    type Error = Fault;
+
+    ghost try_from_gives = { Named case_number };
+
+    fn try_from(number: u32) -> Result<Case, Fault> {
+        match number {
+            1 => Ok(Case::One),
+            2 => Ok(Case::Two),
+            3 => Ok(Case::Three),
+            4 => Ok(Case::Four),
+            _ => Err(Fault::BadForm),
         }
     }
 }

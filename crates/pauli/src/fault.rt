@@ -4,20 +4,20 @@ ghost use Rattle.pauli.specs.Faults.{number_of};
 
 #[derive(Clone, Copy, PartialEq, Eq, Debug)]
 pub enum Fault {
-    BadForm,
-    TextEnded,
-    BadSize,
-    BadWidth,
-    BadRows,
-    BadStart,
-    BadQubit,
-    SameQubit,
-    BadLabel,
-    NoOutcome,
-    JournalFull,
-    TooFewCoins,
-    NoEntry,
-    ShortBuffer,
+    BadForm = 1,
+    TextEnded = 2,
+    BadSize = 3,
+    BadWidth = 4,
+    BadRows = 5,
+    BadStart = 6,
+    BadQubit = 7,
+    SameQubit = 8,
+    BadLabel = 9,
+    NoOutcome = 10,
+    JournalFull = 11,
+    TooFewCoins = 12,
+    NoEntry = 13,
+    ShortBuffer = 14,
 }
 
 impl Fault {
@@ -25,21 +25,6 @@ impl Fault {
     pub fn number(self) -> u32
         ensures { result ≡ number_of self }
     {
-        match self {
-            Fault::BadForm => 1,
-            Fault::TextEnded => 2,
-            Fault::BadSize => 3,
-            Fault::BadWidth => 4,
-            Fault::BadRows => 5,
-            Fault::BadStart => 6,
-            Fault::BadQubit => 7,
-            Fault::SameQubit => 8,
-            Fault::BadLabel => 9,
-            Fault::NoOutcome => 10,
-            Fault::JournalFull => 11,
-            Fault::TooFewCoins => 12,
-            Fault::NoEntry => 13,
-            Fault::ShortBuffer => 14,
-        }
+        self as u32
     }
 }

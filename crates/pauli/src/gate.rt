@@ -1,7 +1,9 @@
 // The gates: five on one qubit, by a table of letter images, and CX on two.
-ghost use Rattle.std.specs.Prelude.{◌≡◌};
-ghost use Rattle.pauli.specs.Gates.{image_of};
+ghost use Rattle.std.specs.Prelude.{◌≡◌, [], ◌∷◌};
+ghost use Rattle.pauli.specs.Gates.{gate_byte, image_of};
+ghost use Rattle.pauli.specs.Names.{Named};
 
+use crate::fault::Fault;
 use crate::letter::Letter;
 
 #[derive(Clone, Copy, PartialEq, Eq, Debug)]
@@ -20,114 +22,55 @@ pub enum Gate {
     Cx { control: u32, target: u32 },
 }
 
-// What a gate makes of one letter: a letter, and whether the sign flips.
+// What a gate makes of one letter: a letter, and whether the sign flips. (Signs are bits that are added, here and everywhere.)
 #[derive(Clone, Copy)]
 pub struct Image {
     pub letter: Letter,
     pub sign: bool,
 }
 
-// What a gate makes of each letter.
-#[derive(Clone, Copy)]
-pub struct Images {
-    i: Image,
-    x: Image,
-    y: Image,
-    z: Image,
-}
+const I: Image = Image {
+    letter: Letter::I,
+    sign: false,
+};
 
-// One row to a gate, in the order of `OneQubit`.
-const GATES: [Images; 5] = [
-    Images {
-        i: Image {
-            letter: Letter::I,
-            sign: false,
-        },
-        x: Image {
-            letter: Letter::Z,
-            sign: false,
-        },
-        y: Image {
-            letter: Letter::Y,
-            sign: true,
-        },
-        z: Image {
-            letter: Letter::X,
-            sign: false,
-        },
-    },
-    Images {
-        i: Image {
-            letter: Letter::I,
-            sign: false,
-        },
-        x: Image {
-            letter: Letter::Y,
-            sign: false,
-        },
-        y: Image {
-            letter: Letter::X,
-            sign: true,
-        },
-        z: Image {
-            letter: Letter::Z,
-            sign: false,
-        },
-    },
-    Images {
-        i: Image {
-            letter: Letter::I,
-            sign: false,
-        },
-        x: Image {
-            letter: Letter::X,
-            sign: false,
-        },
-        y: Image {
-            letter: Letter::Y,
-            sign: true,
-        },
-        z: Image {
-            letter: Letter::Z,
-            sign: true,
-        },
-    },
-    Images {
-        i: Image {
-            letter: Letter::I,
-            sign: false,
-        },
-        x: Image {
-            letter: Letter::X,
-            sign: true,
-        },
-        y: Image {
-            letter: Letter::Y,
-            sign: false,
-        },
-        z: Image {
-            letter: Letter::Z,
-            sign: true,
-        },
-    },
-    Images {
-        i: Image {
-            letter: Letter::I,
-            sign: false,
-        },
-        x: Image {
-            letter: Letter::X,
-            sign: true,
-        },
-        y: Image {
-            letter: Letter::Y,
-            sign: true,
-        },
-        z: Image {
-            letter: Letter::Z,
-            sign: false,
-        },
-    },
+const X: Image = Image {
+    letter: Letter::X,
+    sign: false,
+};
+
+const Y: Image = Image {
+    letter: Letter::Y,
+    sign: false,
+};
+
+const Z: Image = Image {
+    letter: Letter::Z,
+    sign: false,
+};
+
+const MINUS_X: Image = Image {
+    letter: Letter::X,
+    sign: true,
+};
+
+const MINUS_Y: Image = Image {
+    letter: Letter::Y,
+    sign: true,
+};
+
+const MINUS_Z: Image = Image {
+    letter: Letter::Z,
+    sign: true,
+};
+
+// What each gate makes of the letters I, X, Y and Z: one row to a gate, in the order of `OneQubit`.
+const GATES: [[Image; 4]; 5] = [
+    [I, Z, MINUS_Y, X],
+    [I, Y, MINUS_X, Z],
+    [I, X, MINUS_Y, MINUS_Z],
+    [I, MINUS_X, Y, MINUS_Z],
+    [I, MINUS_X, MINUS_Y, Z],
 ];
 
 impl OneQubit {
@@ -135,12 +78,57 @@ impl OneQubit {
     pub fn image(self, letter: Letter) -> Image
         ensures { result ≡ image_of self letter }
     {
-        let images = GATES[self as usize];
+        // A gate's place in the table is its place in the enum.
+        let [i, x, y, z] = GATES[self as usize];
         match letter {
-            Letter::I => images.i,
-            Letter::X => images.x,
-            Letter::Y => images.y,
-            Letter::Z => images.z,
+            Letter::I => i,
+            Letter::X => x,
+            Letter::Y => y,
+            Letter::Z => z,
+        }
+    }
+
+    // A name and a code are tables of the gates themselves, as those of the letters.
+    pub fn name(self) -> &'static str
+        ensures { result.now ≡ gate_byte self ∷ [] }
+    {
+        match self {
+            OneQubit::H => "H",
+            OneQubit::S => "S",
+            OneQubit::X => "X",
+            OneQubit::Y => "Y",
+            OneQubit::Z => "Z",
+        }
+    }
+
+    // The ASCII code of the gate's name.
+    pub fn code(self) -> u8
+        ensures { result ≡ gate_byte self }
+    {
+        match self {
+            OneQubit::H => b'H',
+            OneQubit::S => b'S',
+            OneQubit::X => b'X',
+            OneQubit::Y => b'Y',
+            OneQubit::Z => b'Z',
+        }
+    }
+}
+
+impl TryFrom<u8> for OneQubit {
+    type Error = Fault;
+
+    ghost try_from_gives = { Named gate_byte };
+
+    // The gate of a name's ASCII code.
+    fn try_from(code: u8) -> Result<OneQubit, Fault> {
+        match code {
+            b'H' => Ok(OneQubit::H),
+            b'S' => Ok(OneQubit::S),
+            b'X' => Ok(OneQubit::X),
+            b'Y' => Ok(OneQubit::Y),
+            b'Z' => Ok(OneQubit::Z),
+            _ => Err(Fault::BadForm),
         }
     }
 }

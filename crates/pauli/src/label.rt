@@ -1,12 +1,14 @@
 // Pauli labels: two words of up to 64 bits, one bit of each to a qubit. Qubit q owns the bit of value 2^(q-1).
 ghost use Rattle.std.specs.Prelude.{◌≡◌, ℕ, ◌-◌, ◌<◌, ◌≤◌, true, false, ◌++◌, length, drop, is_err, if◌then◌else◌, Some, None, bit_and, count_ones};
-ghost use Rattle.pauli.specs.Bits.{odd, bit_of, with_bit};
+ghost use Rattle.pauli.specs.Bits.{odd};
 ghost use Rattle.pauli.specs.Faults.{Answers};
 ghost use Rattle.pauli.specs.Letters.{all_letters};
-ghost use Rattle.pauli.specs.Labels.{plus, pairing, beta, fits, Within, at, product_sign, size_ok, letter_fault, label_text, reading_fault, writing_fault};
+ghost use Rattle.pauli.specs.Labels.{plus, pairing, beta, fits, Within, at, product_sign, letter_fault, label_text, reading_fault, writing_fault};
 
+use crate::bits::{below, bit};
 use crate::fault::Fault;
-use crate::letter::{Letter, letter_bits};
+use crate::letter::{Letter, are_letters};
+use crate::qubits::{is_size, on_board};
 
 #[derive(Clone, Copy, PartialEq, Eq, Debug)]
 pub struct Label {
@@ -20,28 +22,6 @@ fn common(a: u64, b: u64) -> u32
     ensures small { result ≤ 64 }
 {
     (a & b).count_ones()
-}
-
-// The bit of value 2^i.
-pub(crate) fn bit(w: u64, i: u32) -> bool
-    requires { i < 64 }
-    ensures { result ≡ bit_of w i }
-{
-    (w >> i) % 2 == 1
-}
-
-// The word with that bit made `b`.
-pub(crate) fn with_bit(w: u64, i: u32, b: bool) -> u64
-    requires { i < 64 }
-    ensures { result ≡ with_bit w i b }
-{
-    if bit(w, i) ^ b { w ^ (1 << i) } else { w }
-}
-
-pub(crate) fn is_size(n: u32) -> bool
-    ensures { result ≡ size_ok n }
-{
-    1 <= n && n <= 64
 }
 
 impl Label {
@@ -87,18 +67,24 @@ impl Label {
     pub fn fits(self, n: u32) -> bool
         ensures { result ≡ fits n self }
     {
-        n >= 64 || (self.x >> n == 0 && self.z >> n == 0)
+        below(self.x, n) && below(self.z, n)
+    }
+
+    // The letter at the qubit that owns the bit of value 2^i; beyond the last such qubit it is I.
+    pub fn at(self, i: u32) -> Letter
+        ensures { result ≡ at self i }
+    {
+        Letter::from_bits(bit(self.x, i), bit(self.z, i))
     }
 
     // The letter at a qubit.
     pub fn letter(self, qubit: u32) -> Result<Letter, Fault>
         ensures { Answers (letter_fault qubit) (λ l. l ≡ at self (qubit - 1)) result }
     {
-        if qubit < 1 || 64 < qubit {
+        if !on_board(64, qubit) {
             return Err(Fault::BadQubit);
         }
-        let i = qubit - 1;
-        Ok(Letter::from_bits(bit(self.x, i), bit(self.z, i)))
+        Ok(self.at(qubit - 1))
     }
 
     // The label of n qubits that a text of n letters names, qubit 1 first.
@@ -132,34 +118,19 @@ impl Label {
         if out.len() < len {
             return Err(Fault::ShortBuffer);
         }
-        self.fill(len, out);
+        self.fill(&mut out[..len]);
         Ok(len)
     }
 
-    fn fill(self, len: usize, out: &mut [u8])
-        requires { len ≤ length out.old }
-        ensures { out.new ≡ label_text len self ++ drop len out.old }
+    // Writes as many letters as the text is long.
+    fn fill(self, text: &mut [u8])
+        requires { length text.old ≤ 64 }
+        ensures { text.new ≡ label_text (length text.old) self }
     {
-        let mut rest = self;
-        for i in 0..len {
-            out[i] = Letter::from_bits(rest.x % 2 == 1, rest.z % 2 == 1).code();
-            rest = Label {
-                x: rest.x / 2,
-                z: rest.z / 2,
-            };
+        for (i, byte) in text.iter_mut().enumerate() {
+            *byte = self.at(i as u32).code();
         }
     }
-}
-
-fn are_letters(text: &[u8]) -> bool
-    ensures { result ≡ all_letters text.now }
-{
-    for b in text {
-        if letter_bits(char::from(*b)).is_err() {
-            return false;
-        }
-    }
-    true
 }
 
 // The label that a text of letters names: the last letter first, so that each new bit enters below the others.
@@ -167,13 +138,13 @@ fn gathered(text: &[u8]) -> Result<Label, Fault>
     requires { length text.now ≤ 64 }
     ensures { Answers (if all_letters text.now then None else Some Fault.BadForm) (λ a. Within (length text.now) a × (text.now ≡ label_text (length text.now) a)) result }
 {
-    let mut a = Label { x: 0, z: 0 };
-    for i in (0..text.len()).rev() {
-        let (x, z) = letter_bits(char::from(text[i]))?;
-        a = Label {
-            x: 2 * a.x + u64::from(x),
-            z: 2 * a.z + u64::from(z),
+    let mut label = Label { x: 0, z: 0 };
+    for byte in text.iter().rev() {
+        let (x, z) = Letter::try_from(*byte)?.bits();
+        label = Label {
+            x: 2 * label.x + u64::from(x),
+            z: 2 * label.z + u64::from(z),
         };
     }
-    Ok(a)
+    Ok(label)
 }

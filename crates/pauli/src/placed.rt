@@ -1,23 +1,16 @@
 // A gate whose qubits were checked: it can be carried out on any row.
 ghost use Rattle.std.specs.Prelude.{◌≡◌, true};
 ghost use Rattle.pauli.specs.Faults.{Answers};
-ghost use Rattle.pauli.specs.Labels.{on_board};
 ghost use Rattle.pauli.specs.Gates.{placeable, placing_fault};
 
 use crate::fault::Fault;
 use crate::gate::Gate;
-use crate::label::is_size;
+use crate::qubits::{is_size, on_board};
 
 #[derive(Clone, Copy)]
 pub struct PlacedGate {
     pub gate: Gate,
     ghost placed: { placeable gate ≡ true },
-}
-
-fn on_board(n: u32, qubit: u32) -> bool
-    ensures { result ≡ on_board n qubit }
-{
-    1 <= qubit && qubit <= n
 }
 
 impl Gate {

@@ -6,13 +6,13 @@ ghost use Rattle.pauli.specs.Labels.{pairing};
 ghost use Rattle.pauli.specs.Rows.{row, times};
 ghost use Rattle.pauli.specs.Gates.{turned, turn_flips, crossed, cross_flips, carry, placing_fault};
 
+use crate::bits::{bit, with_bit};
 use crate::fault::Fault;
 use crate::gate::{Gate, OneQubit};
-use crate::label::{Label, bit, with_bit};
-use crate::letter::Letter;
+use crate::label::Label;
 use crate::placed::PlacedGate;
 
-// A label with a sign: `sign` is true for minus.
+// A label with a sign: `sign` is true for minus. It is a bit and no enum, since signs are added.
 #[derive(Clone, Copy, PartialEq, Eq, Debug)]
 pub struct Row {
     pub label: Label,
@@ -46,11 +46,12 @@ impl Row {
         ensures { result ≡ row (turned gate (qubit - 1) self.label) (xorb self.sign (turn_flips gate (qubit - 1) self.label)) }
     {
         let i = qubit - 1;
-        let image = gate.image(Letter::from_bits(bit(self.label.x, i), bit(self.label.z, i)));
+        let image = gate.image(self.label.at(i));
+        let (x, z) = image.letter.bits();
         Row {
             label: Label {
-                x: with_bit(self.label.x, i, image.letter.has_x()),
-                z: with_bit(self.label.z, i, image.letter.has_z()),
+                x: with_bit(self.label.x, i, x),
+                z: with_bit(self.label.z, i, z),
             },
             sign: self.sign ^ image.sign,
         }
@@ -71,7 +72,7 @@ impl Row {
                 x: with_bit(self.label.x, t, xt ^ xc),
                 z: with_bit(self.label.z, c, zc ^ zt),
             },
-            sign: self.sign ^ ((xc & zt) & (xt == zc)),
+            sign: self.sign ^ (xc && zt && (xt == zc)),
         }
     }
 

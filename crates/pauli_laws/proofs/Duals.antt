@@ -13,7 +13,8 @@ use Rattle.pauli_laws.proofs.Numbers.{bit_cases}
 use Rattle.pauli_laws.proofs.Words.{ones_zero}
 use Rattle.pauli_laws.proofs.Signs.{num, num_odd}
 use Rattle.pauli_laws.proofs.Algebra.{label, plus_comm, plus_assoc, plus_self, plus_zero, plus_cancel, label_discrete, within_large, pairing_l, pairing_r, pairing_comm, pairing_lt, pairing_zero}
-use Rattle.pauli_laws.proofs.Places.{bits_ext, bit_of_and, bit_pow_other, bit_half}
+use Rattle.pauli.proofs.Words.{bit_half}
+use Rattle.pauli_laws.proofs.Places.{bits_ext, bit_of_and, bit_pow_other}
 
 -- what commutes with each of some labels commutes with their sums
 pub span_pairing : (rs : List Label) (w a : Label) → All (λ s. pairing s w ≡ 0) rs → Span rs a → pairing a w ≡ 0

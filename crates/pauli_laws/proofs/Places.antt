@@ -1,11 +1,12 @@
 -- The bits of a word by place, and sums over places.
-use Rattle.std.proofs.Common.{◌≡◌, ℕ, zero, suc, ◌+◌, ◌*◌, ◌/◌, ◌%◌, ◌^◌, ◌<◌, ◌≤◌, Bool, true, false, cond, ◌&&◌, eqb, ◌≢◌, sym, refl, ap, ◌∙◌, ap₂, pow-suc, mul-zero, mul-add, arith, shr-shr}
+use Rattle.std.proofs.Common.{◌≡◌, ℕ, zero, suc, ◌+◌, ◌*◌, ◌/◌, ◌%◌, ◌^◌, ◌<◌, ◌≤◌, Bool, true, false, cond, ◌&&◌, eqb, ◌≢◌, sym, refl, ap, ◌∙◌, ap₂, pow-suc, mul-zero, mul-add, arith}
 use lib.Arith.{half_le, lt-one}
 use lib.Bits.{bit_and, bit_xor, and_shr, xor_shr, xor_lt}
 use lib.Count.{ones, ones_step}
 use lib.Pow.{pow-lt}
 use native.Mathlib.Decide.{ℕ_discrete}
 use Rattle.pauli.specs.Bits.{xorb, odd, bit_of, with_bit}
+use Rattle.pauli.proofs.Words.{bit_half, bit_low}
 use Rattle.pauli_laws.proofs.Words.{ones_zero}
 use Rattle.pauli_laws.proofs.Signs.{num, num_odd, odd_xor, odd_and, xorb_false}
 
@@ -14,13 +15,6 @@ bit_of_xor a b i = ap odd (xor_shr a b i) ∙ odd_xor (a / 2 ^ i) (b / 2 ^ i)
 
 pub bit_of_and : (a b i : ℕ) → bit_of (bit_and a b) i ≡ (bit_of a i && bit_of b i)
 bit_of_and a b i = ap odd (and_shr a b i) ∙ odd_and (a / 2 ^ i) (b / 2 ^ i)
-
--- the bits of the half
-pub bit_half : (w i : ℕ) → bit_of (w / 2) i ≡ bit_of w (suc i)
-bit_half w i = ap odd (shr-shr w 1 i ∙ ap (λ (k : ℕ). w / 2 ^ k) (omega arith))
-
-pub bit_low : (w : ℕ) → bit_of w 0 ≡ odd w
-bit_low w = ap odd (omega arith)
 
 -- words with the same bits are equal
 pub bits_ext : (a b : ℕ) → ((i : ℕ) → bit_of a i ≡ bit_of b i) → a ≡ b

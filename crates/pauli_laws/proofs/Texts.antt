@@ -1,18 +1,17 @@
 -- The text of a label's letters tells the label.
-use Rattle.std.proofs.Common.{◌≡◌, ℕ, zero, suc, ◌+◌, ◌*◌, ◌/◌, ◌%◌, ◌^◌, ◌<◌, Bool, true, List, [], ◌∷◌, map, length, get_or, sym, refl, ap, ◌∙◌, ap₂, pow-suc, arith}
+use Rattle.std.proofs.Common.{◌≡◌, ℕ, zero, suc, ◌+◌, ◌*◌, ◌/◌, ◌%◌, ◌^◌, ◌<◌, Bool, true, List, [], ◌∷◌, map, length, sym, refl, ap, ◌∙◌, ap₂, pow-suc, arith}
 use Rattle.std.proofs.lemmas.Bool.Decides.{nat_tests}
 use Rattle.pauli.specs.declared.label.Label.{Label}
 use Rattle.pauli.specs.declared.letter.Letter.{Letter}
-use Rattle.pauli.specs.Bits.{odd, bit_of}
+use Rattle.pauli.specs.Bits.{odd}
 use Rattle.pauli.specs.Letters.{letter_of, x_of, z_of, code_of}
-use Rattle.pauli.specs.Labels.{Within, fits, at, letters, label_text}
+use Rattle.pauli.specs.Labels.{Within, fits, letters, label_text}
 use Rattle.pauli_laws.specs.Spaces.{All}
 use Rattle.pauli_laws.specs.Words.{word}
 use Rattle.pauli_laws.proofs.Words.{by_halves}
 use Rattle.pauli_laws.proofs.Signs.{num, num_lt, num_odd, odd_num, odd_mod}
 use Rattle.pauli_laws.proofs.Algebra.{label, zero_within}
 use Rattle.pauli_laws.proofs.OneQubit.{letter_bits}
-use Rattle.pauli_laws.proofs.Places.{bit_half, bit_low}
 
 -- ---- `fits` tells labels of n qubits
 
@@ -26,28 +25,12 @@ within_fits n a h = grind (arith, nat_tests, h.x, h.z)
 
 -- ---- texts
 
-pub text_length : (n : ℕ) (a : Label) → length (label_text n a) ≡ n
-text_length n a = go n a.x a.z
-  where
-    go : (n x z : ℕ) → length (letters n x z) ≡ n
-    go zero x z = refl
-    go (suc n) x z = ap suc (go n (x / 2) (z / 2))
-
 pub text_codes : (n : ℕ) (a : Label) → All (λ c. (l : Letter) × (c ≡ code_of l)) (label_text n a)
 text_codes n a = go n a.x a.z
   where
     go : (n x z : ℕ) → All (λ c. (l : Letter) × (c ≡ code_of l)) (letters n x z)
     go zero x z = tt
     go (suc n) x z = ((letter_of (odd x) (odd z), refl), go n (x / 2) (z / 2))
-
--- the letter at place i is written there
-pub text_at : (n : ℕ) (a : Label) (i : ℕ) → i < n → get_or (label_text n a) i 0 ≡ code_of (at a i)
-text_at n a i h = go n a.x a.z i h
-  where
-    go : (n x z i : ℕ) → i < n → get_or (letters n x z) i 0 ≡ code_of (letter_of (bit_of x i) (bit_of z i))
-    go zero x z i h = absurd (omega arith)
-    go (suc n) x z zero h = ap₂ (λ (p q : Bool). code_of (letter_of p q)) (sym (bit_low x)) (sym (bit_low z))
-    go (suc n) x z (suc i) h = go n (x / 2) (z / 2) i (omega arith) ∙ ap₂ (λ (p q : Bool). code_of (letter_of p q)) (bit_half x i) (bit_half z i)
 
 -- the bits of the letter that a code stands for
 x_told : (p q r s : Bool) → code_of (letter_of p q) ≡ code_of (letter_of r s) → p ≡ r

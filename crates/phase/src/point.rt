@@ -19,7 +19,7 @@ pub trait PhasePoint: ValueSheet {
     fn look(&self, b: Label) -> Result<(Case, u32), Fault>
         ensures { LookAnswer (Self.ValueSheet.sheet self.now) b result };
 
-    // Measures a label with a sign. The coins are the lowest bits of a word, the first one lowest.
+    // Measures a label with a sign, which is no row: a row's sign is a value that its label has. The coins are the lowest bits of a word, the first one lowest.
     // A label with a letter beyond n is refused.
     fn measure(&mut self, b: Label, sign: bool, coins: u64) -> Result<bool, Fault>
         ensures done { MeasureAnswer (Self.ValueSheet.sheet self.old) b sign coins result (Self.ValueSheet.sheet self.new) }

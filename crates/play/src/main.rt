@@ -3,20 +3,21 @@
 #![tactic(auto)]
 
 use coins::text::TextCoins;
+use journal_lines::lines::LONGEST_LINE;
+use pauli::fault::Fault;
 use pauli::gate::{Gate, OneQubit};
 use pauli::label::Label;
-use qubit::point::Qubit;
-use runs::answer::Answer;
+use qubit::point::{Qubit, X, Y, Z};
+use runs::answer::{Answer, Conditional};
 use runs::call::Call;
 use session::playing::play;
 use std::io;
 use std::io::Write;
 
-const X: Label = Label { x: 1, z: 0 };
-
-const Y: Label = Label { x: 1, z: 1 };
-
-const Z: Label = Label { x: 0, z: 1 };
+const TURN: Call = Call::Gate(Gate::One {
+    gate: OneQubit::H,
+    qubit: 1,
+});
 
 const CALLS: [Call; 21] = [
     Call::Size,
@@ -30,10 +31,7 @@ const CALLS: [Call; 21] = [
         sign: true,
     },
     Call::Value(Z),
-    Call::Gate(Gate::One {
-        gate: OneQubit::H,
-        qubit: 1,
-    }),
+    TURN,
     Call::Measure {
         label: Z,
         sign: false,
@@ -76,44 +74,34 @@ const CALLS: [Call; 21] = [
     },
     Call::Read {
         entry: 1,
-        room: 144,
+        room: LONGEST_LINE,
     },
     Call::Read {
         entry: 5,
-        room: 144,
+        room: LONGEST_LINE,
     },
     Call::Read {
         entry: 8,
-        room: 144,
+        room: LONGEST_LINE,
     },
     Call::Read {
         entry: 9,
-        room: 144,
+        room: LONGEST_LINE,
     },
     Call::Read { entry: 3, room: 7 },
 ];
 
-fn digit(bit: bool) -> u32 {
-    u32::from(bit)
-}
-
-fn print_value(rt: HostRuntime, value: Option<bool>) -> io::Result<()> {
-    match value {
-        Some(value) => println!(rt; "value {}", digit(value)),
-        None => println!(rt; "no value"),
-    }
-}
-
-fn print(rt: HostRuntime, answer: Answer) -> io::Result<()> {
+fn print(rt: HostRuntime, answer: Result<Answer, Fault>) -> io::Result<()> {
     match answer {
-        Answer::Done => println!(rt; "done"),
-        Answer::PassedOver => println!(rt; "passed over"),
-        Answer::Outcome(outcome) => println!(rt; "outcome {}", digit(outcome)),
-        Answer::Size(size) => println!(rt; "size {}", size),
-        Answer::Width(width) => println!(rt; "width {}", width),
-        Answer::Value(value) => print_value(rt, value),
-        Answer::Line(line) => rt.stdout().write_all(line.bytes()),
-        Answer::Refused(fault) => println!(rt; "refused {}", fault.number()),
+        Ok(Answer::Done | Answer::Conditional(Conditional::Done)) => println!(rt; "done"),
+        Ok(Answer::Conditional(Conditional::PassedOver)) => println!(rt; "passed over"),
+        Ok(Answer::Outcome(outcome)) => println!(rt; "outcome {}", u32::from(outcome)),
+        Ok(Answer::Size(size)) => println!(rt; "size {size}"),
+        Ok(Answer::Width(width)) => println!(rt; "width {width}"),
+        Ok(Answer::Value(Some(value))) => println!(rt; "value {}", u32::from(value)),
+        Ok(Answer::Value(None)) => println!(rt; "no value"),
+        Ok(Answer::Line(line)) => rt.stdout().write_all(line.bytes()),
+        Err(fault) => println!(rt; "refused {}", fault.number()),
     }
 }
 
@@ -123,20 +111,19 @@ fn main(rt: HostRuntime) -> io::Result<()> {
         y: true,
         z: false,
     };
-    let Ok(coins) = TextCoins::over(b"1011") else {
-        return Ok(());
-    };
-    let mut answers = [Answer::Done; 21];
+    let coins = TextCoins::over(b"1011").unwrap();
+    let mut answers = [Ok(Answer::Done); CALLS.len()];
     let mut session = play(point, coins, &CALLS, &mut answers);
-    let mut last = Answer::Done;
+    let mut last = Ok(Answer::Done);
+    // As many times as a journal has entries: so it gets full.
     for _ in 0..512 {
-        last = session.call(CALLS[5]);
+        last = session.call(TURN);
     }
     let entries = session.entries();
     let (_, _) = session.close();
-    for answer in &answers {
-        print(rt, *answer)?;
+    for answer in answers {
+        print(rt, answer)?;
     }
-    println!(rt; "entries {}", entries)?;
+    println!(rt; "entries {entries}")?;
     print(rt, last)
 }

@@ -48,95 +48,43 @@ against Z Z = 0
 pub plus_letters : (l m : Letter) → plus (label_of l) (label_of m) ≡ label_of (mul l m)
 unfolding plus
 plus_letters I I = refl
-plus_letters I X = refl
-plus_letters I Y = refl
-plus_letters I Z = refl
 plus_letters X I = refl
-plus_letters X X = refl
-plus_letters X Y = refl
-plus_letters X Z = refl
 plus_letters Y I = refl
-plus_letters Y X = refl
-plus_letters Y Y = refl
-plus_letters Y Z = refl
 plus_letters Z I = refl
-plus_letters Z X = refl
-plus_letters Z Y = refl
-plus_letters Z Z = refl
+plus_letters l m = refl
 
 pub pairing_letters : (l m : Letter) → pairing (label_of l) (label_of m) ≡ against l m
 unfolding pairing ones
 pairing_letters I I = refl
-pairing_letters I X = refl
-pairing_letters I Y = refl
-pairing_letters I Z = refl
 pairing_letters X I = refl
-pairing_letters X X = refl
-pairing_letters X Y = refl
-pairing_letters X Z = refl
 pairing_letters Y I = refl
-pairing_letters Y X = refl
-pairing_letters Y Y = refl
-pairing_letters Y Z = refl
 pairing_letters Z I = refl
-pairing_letters Z X = refl
-pairing_letters Z Y = refl
-pairing_letters Z Z = refl
+pairing_letters l m = refl
 
 pub value_letter : (q : Qubit) (l : Letter) → (sheet_of q).value (label_of l) ≡ Some (sign_of q l)
 unfolding fits
 value_letter q I = refl
-value_letter q X = refl
-value_letter q Y = refl
-value_letter q Z = refl
+value_letter q l = refl
 
 -- ---- gates
 
 pub moved_letter : (g : OneQubit) (l : Letter) → moved (One g 1) (label_of l) ≡ label_of (image_of g l).letter
 unfolding moved
 moved_letter G.H I = refl
-moved_letter G.H X = refl
-moved_letter G.H Y = refl
-moved_letter G.H Z = refl
 moved_letter G.S I = refl
-moved_letter G.S X = refl
-moved_letter G.S Y = refl
-moved_letter G.S Z = refl
 moved_letter G.X I = refl
-moved_letter G.X X = refl
-moved_letter G.X Y = refl
-moved_letter G.X Z = refl
 moved_letter G.Y I = refl
-moved_letter G.Y X = refl
-moved_letter G.Y Y = refl
-moved_letter G.Y Z = refl
 moved_letter G.Z I = refl
-moved_letter G.Z X = refl
-moved_letter G.Z Y = refl
-moved_letter G.Z Z = refl
+moved_letter g l = refl
 
 pub flips_letter : (g : OneQubit) (l : Letter) → flips (One g 1) (label_of l) ≡ (image_of g l).sign
 unfolding flips
 flips_letter G.H I = refl
-flips_letter G.H X = refl
-flips_letter G.H Y = refl
-flips_letter G.H Z = refl
 flips_letter G.S I = refl
-flips_letter G.S X = refl
-flips_letter G.S Y = refl
-flips_letter G.S Z = refl
 flips_letter G.X I = refl
-flips_letter G.X X = refl
-flips_letter G.X Y = refl
-flips_letter G.X Z = refl
 flips_letter G.Y I = refl
-flips_letter G.Y X = refl
-flips_letter G.Y Y = refl
-flips_letter G.Y Z = refl
 flips_letter G.Z I = refl
-flips_letter G.Z X = refl
-flips_letter G.Z Y = refl
-flips_letter G.Z Z = refl
+flips_letter g l = refl
 
 xorb_true : (p : Bool) → xorb p true ≡ not p
 xorb_true true = refl

@@ -1,5 +1,6 @@
 // A phase point of one qubit and width 1: the centre is the zero label, and X, Y and Z are three rays.
-ghost use Rattle.std.specs.Prelude.{◌≡◌};
+ghost use Rattle.std.specs.Prelude.{◌≡◌, true, false, MatchResult};
+ghost use Rattle.pauli.specs.Labels.{at, fits};
 ghost use Rattle.qubit.specs.OneQubit.{sign_of, case_of, coins_of, sheet_of, turned_by, flipped_by};
 ghost use Rattle.qubit.specs.ValuesLemmas as Values;
 
@@ -23,11 +24,22 @@ const SIZE: u32 = 1;
 
 const WIDTH: u32 = 1;
 
-const X: Label = Label { x: 1, z: 0 };
+// The labels of the three rays.
+pub const X: Label = Label { x: 1, z: 0 };
 
-const Y: Label = Label { x: 1, z: 1 };
+pub const Y: Label = Label { x: 1, z: 1 };
 
-const Z: Label = Label { x: 0, z: 1 };
+pub const Z: Label = Label { x: 0, z: 1 };
+
+// The letter of a label of one qubit.
+fn letter(label: Label) -> Result<Letter, Fault>
+    ensures { MatchResult result (λ l. (fits 1 label ≡ true) × (l ≡ at label 0)) (λ e. (fits 1 label ≡ false) × (e ≡ Fault.BadLabel)) }
+{
+    if !label.fits(SIZE) {
+        return Err(Fault::BadLabel);
+    }
+    label.letter(1)
+}
 
 // The case of a letter and the coins that it needs.
 fn kind(letter: Letter) -> (Case, u32)
@@ -65,22 +77,22 @@ impl Qubit {
             OneQubit::S => Qubit {
                 x: !self.y,
                 y: self.x,
-                z: self.z,
+                ..*self
             },
             OneQubit::X => Qubit {
-                x: self.x,
                 y: !self.y,
                 z: !self.z,
+                ..*self
             },
             OneQubit::Y => Qubit {
                 x: !self.x,
-                y: self.y,
                 z: !self.z,
+                ..*self
             },
             OneQubit::Z => Qubit {
                 x: !self.x,
                 y: !self.y,
-                z: self.z,
+                ..*self
             },
         }
     }
@@ -111,10 +123,7 @@ impl ValueSheet for Qubit {
     }
 
     fn value(&self, a: Label) -> Result<Option<bool>, Fault> {
-        if !a.fits(SIZE) {
-            return Err(Fault::BadLabel);
-        }
-        let letter = a.letter(1)?;
+        let letter = letter(a)?;
         Ok(Some(self.sign(letter)))
     }
 }
@@ -133,18 +142,12 @@ impl PhasePoint for Qubit {
     }
 
     fn look(&self, b: Label) -> Result<(Case, u32), Fault> {
-        if !b.fits(SIZE) {
-            return Err(Fault::BadLabel);
-        }
-        Ok(kind(b.letter(1)?))
+        Ok(kind(letter(b)?))
     }
 
     #[tactic(auto, using(crate::proofs::Tosses::with_coin, crate::proofs::Tosses::without_coin))]
     fn measure(&mut self, b: Label, sign: bool, coins: u64) -> Result<bool, Fault> {
-        if !b.fits(SIZE) {
-            return Err(Fault::BadLabel);
-        }
-        let letter = b.letter(1)?;
+        let letter = letter(b)?;
         let outcome = self.sign(letter) ^ sign;
         if coins % 2 == 1 {
             *self = self.flipped(b);

@@ -2,8 +2,13 @@
 #![tactic(auto)]
 
 use circuit::play::play;
+use circuit_run::output::last_line;
+use circuit_run::report::Finish;
+use circuit_run::run::{open, supply};
 use circuit_text::reader::Reader;
+use coins::source::CoinSource;
 use coins::text::TextCoins;
+use journal_lines::lines::LONGEST_LINE;
 use pauli::fault::Fault;
 use pauli::row::Row;
 use phase::sheet::ValueSheet;
@@ -11,25 +16,21 @@ use session::session::Session;
 use std::io;
 use std::io::{Read, Write};
 use tableau::tableau::Tableau;
+use text::limits::ENOUGH;
+use text::stop::{Stop, at};
 use text::write;
 use text::write::Field;
 
-// The longest line of a journal.
-const LINE: usize = 144;
-
-// One byte more than a text may have, so that a text that is too long is seen to be.
-const ENOUGH: u64 = 32769;
-
-fn show_refusal(rt: &HostRuntime, line: usize, fault: Fault) -> io::Result<()> {
-    let number = fault.number();
-    println!(rt; "R,{line},{number}")
+fn show_end(rt: &HostRuntime, end: Result<Finish, Stop>) -> io::Result<()> {
+    let line = last_line(rt.alloc(), end)?;
+    print!(rt; "{line}")
 }
 
-// A refusal of one of the first two lines has line 0 where the text has ended.
-fn show_first(rt: &HostRuntime, line: usize, fault: Fault) -> io::Result<()> {
-    match fault {
-        Fault::TextEnded => show_refusal(rt, 0, fault),
-        _ => show_refusal(rt, line, fault),
+// Prints a line that was written into the start of a page, which has room for every line.
+fn show_line(rt: &HostRuntime, page: &[u8], written: Result<usize, Fault>) -> io::Result<()> {
+    match written.ok().and_then(|length| page.get(..length)) {
+        Some(line) => rt.stdout().write_all(line),
+        None => Ok(()),
     }
 }
 
@@ -38,17 +39,13 @@ fn show_entry(
     session: &Session<Tableau, TextCoins>,
     entry: u32,
 ) -> io::Result<()> {
-    let mut page = [0u8; LINE];
-    let Ok(length) = session.read(entry, &mut page) else {
-        return Ok(());
-    };
-    match page.get(0..length) {
-        Some(line) => rt.stdout().write_all(line),
-        None => Ok(()),
-    }
+    let mut page = [0; LONGEST_LINE];
+    let written = session.read(entry, &mut page);
+    show_line(rt, &page, written)
 }
 
 fn show_journal(rt: &HostRuntime, session: &Session<Tableau, TextCoins>) -> io::Result<()> {
+    // Entries are asked for by their numbers, and rows too.
     for entry in 1..=session.entries() {
         show_entry(rt, session, entry)?;
     }
@@ -57,7 +54,7 @@ fn show_journal(rt: &HostRuntime, session: &Session<Tableau, TextCoins>) -> io::
 
 // A row's line: its number, D, S or J for its kind, its sign and its letters.
 fn show_row(rt: &HostRuntime, size: u32, number: u32, kind: u8, row: Row) -> io::Result<()> {
-    let mut page = [0u8; LINE];
+    let mut page = [0; LONGEST_LINE];
     let letters = Field::Letters {
         size,
         label: row.label,
@@ -68,13 +65,8 @@ fn show_row(rt: &HostRuntime, size: u32, number: u32, kind: u8, row: Row) -> io:
         Field::Sign(row.sign),
         letters,
     ];
-    let Ok(length) = write::line(&fields, &mut page) else {
-        return Ok(());
-    };
-    match page.get(0..length) {
-        Some(line) => rt.stdout().write_all(line),
-        None => Ok(()),
-    }
+    let written = write::line(&fields, &mut page);
+    show_line(rt, &page, written)
 }
 
 fn kind_of(number: u32, pairs: u32) -> u8 {
@@ -98,48 +90,37 @@ fn show_rows(rt: &HostRuntime, point: &Tableau) -> io::Result<()> {
     Ok(())
 }
 
-fn run(rt: &HostRuntime, text: &[u8]) -> io::Result<()> {
-    let mut reader = match Reader::over(text) {
-        Ok(reader) => reader,
-        Err(fault) => return show_refusal(rt, 0, fault),
+// The first two lines: the tableau, its coins, and the reader of the lines after them.
+fn begin(text: &[u8]) -> Result<(Reader, Tableau, TextCoins), Stop> {
+    let mut reader = at(0, Reader::over(text))?;
+    let point = open(&mut reader)?;
+    let source = supply(&mut reader)?;
+    Ok((reader, point, source))
+}
+
+fn show(rt: &HostRuntime, text: &[u8]) -> io::Result<()> {
+    let (mut reader, point, source) = match begin(text) {
+        Ok(begun) => begun,
+        Err(stop) => return show_end(rt, Err(stop)),
     };
-    let opening = match reader.opening() {
-        Ok(opening) => opening,
-        Err(fault) => return show_first(rt, 1, fault),
-    };
-    let point = match Tableau::open(opening.size, opening.width) {
-        Ok(point) => point,
-        Err(fault) => return show_refusal(rt, 1, fault),
-    };
-    let digits = match reader.coins() {
-        Ok(digits) => digits,
-        Err(fault) => return show_first(rt, 2, fault),
-    };
-    let source = match TextCoins::over(digits) {
-        Ok(source) => source,
-        Err(fault) => return show_refusal(rt, 2, fault),
-    };
+    let coins = source.left();
     let mut session = Session::open(point, source);
-    let end = play(&mut session, &mut reader);
+    let played = play(&mut session, &mut reader);
     let shown = show_journal(rt, &session);
-    let entries = session.entries();
-    let left = session.coins_left();
-    let width = session.width();
+    let finish = Finish {
+        entries: session.entries(),
+        coins: coins.saturating_sub(session.coins_left()),
+        width: session.width(),
+    };
     let (point, _source) = session.close();
     shown?;
     show_rows(rt, &point)?;
-    match end {
-        Ok(()) => {
-            let spent = (digits.len() as u64).saturating_sub(left);
-            println!(rt; "E,{entries},{spent},{width}")
-        }
-        Err(stop) => show_refusal(rt, stop.line, stop.fault),
-    }
+    show_end(rt, played.map(|()| finish))
 }
 
 fn main(rt: HostRuntime) -> anyhow::Result<()> {
     let mut text = Vec::new(rt.alloc());
     rt.stdin().take(ENOUGH).read_to_end(&mut text)?;
-    run(&rt, text.as_slice())?;
+    show(&rt, text.as_slice())?;
     Ok(())
 }

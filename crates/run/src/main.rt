@@ -4,9 +4,7 @@
 use circuit_run::output;
 use std::io;
 use std::io::{Read, Write};
-
-// One byte more than a text may have, so that a text that is too long is seen to be.
-const ENOUGH: u64 = 32769;
+use text::limits::ENOUGH;
 
 fn main(rt: HostRuntime) -> io::Result<()> {
     let mut text = Vec::new(rt.alloc());

@@ -1,6 +1,7 @@
 -- What one call keeps of the promises.
 use Rattle.std.proofs.Common.{◌≡◌, ℕ, zero, suc, ◌+◌, ◌/◌, ◌<◌, ◌≤◌, Bool, true, false, cond, ltb, List, [], ◌∷◌, ◌++◌, map, length, Some, None, Ok, Err, Option, Result, sym, refl, ap, ◌∙◌, subst, append_assoc, arith, length-append}
 use Rattle.std.proofs.lemmas.Bool.Decides.{nat_tests}
+use Rattle.std.proofs.lemmas.List.{append-nil}
 use Rattle.pauli.specs.declared.case.Case.{Case}
 use Rattle.pauli.specs.declared.fault.Fault.{Fault}
 use Rattle.pauli.specs.declared.fault.Fault.TheVariants.{JournalFull}
@@ -18,7 +19,7 @@ use Rattle.phase.specs.Sheets.{Sheet, Lawful}
 use Rattle.journal_lines.specs.declared.event.Event.{Event}
 use Rattle.journal_lines.specs.declared.event.Event.TheVariants.{Gate as GateEvent, Conditional as ConditionalEvent}
 use Rattle.runs.specs.declared.answer.Answer.{Answer}
-use Rattle.runs.specs.declared.answer.Answer.TheVariants.{Done, Outcome, Refused}
+use Rattle.runs.specs.declared.answer.Answer.TheVariants as A
 use Rattle.runs.specs.declared.answer.Conditional.{Conditional}
 use Rattle.runs.specs.declared.answer.Conditional.TheVariants as C
 use Rattle.runs.specs.declared.call.Call.{Call}
@@ -29,7 +30,7 @@ use Rattle.runs.specs.Refusals.{before, full_fault}
 use Rattle.runs.specs.Spent.{spent}
 use Rattle.runs.specs.Standing.{Among, TrueTo, outcome_row, stand_after}
 use Rattle.runs.specs.States.{State}
-use Rattle.runs.specs.Steps.{GateDone, GateStep, ConditionalStep, MeasureStep, Step, gate_answer, conditional_answer, measure_answer}
+use Rattle.runs.specs.Steps.{GateDone, GateStep, ConditionalStep, MeasureStep, Step}
 use Rattle.runs.proofs.Rows.{product_value, stood_gate, stood_measure, effect_told, effect_width}
 use Rattle.runs.proofs.Shown.{coins_of, spent_more}
 
@@ -37,9 +38,9 @@ use Rattle.runs.proofs.Shown.{coins_of, spent_more}
 abbrev pub paid : State → ℕ
 paid s = length (spent (readings s.events))
 
-pub record Next (s : State) (c : Call) (a : Answer) (rows : List Row) (t : State) : Type 0 where
+pub record Next (s : State) (c : Call) (a : Result Answer Fault) (rows : List Row) (t : State) : Type 0 where
   pub stood : TrueTo t.sheet (stand_after c a rows)
-  pub told : (b : Label) (sign o : Bool) → c ≡ Ask.Measure b sign → a ≡ Outcome o → (ps : List Row) → Among ps rows → (product ps).label ≡ b
+  pub told : (b : Label) (sign o : Bool) → c ≡ Ask.Measure b sign → a ≡ Ok (A.Outcome o) → (ps : List Row) → Among ps rows → (product ps).label ≡ b
       → o ≡ xorb (product ps).sign sign
   pub cases : List Case
   pub these : CaseOf s (outcome_row c a) cases
@@ -57,10 +58,6 @@ length_bits : (k w : ℕ) → length (bits k w) ≡ k
 length_bits zero w = refl
 length_bits (suc k) w = ap suc (length_bits k (w / 2))
 
-append_nil : (l : List Bool) → l ++ [] ≡ l
-append_nil [] = refl
-append_nil (x ∷ xs) = ap (λ l. x ∷ l) (append_nil xs)
-
 -- no reason, so neither of two
 first_none : (p q : Option Fault) → before p q ≡ None → (p ≡ None) × (q ≡ None)
 first_none (Some e) q h = never (cc)
@@ -73,8 +70,8 @@ room es e = go (length es) e
     go n e = grind (arith, nat_tests)
 
 -- a call that leaves the state and the rows
-idle : (s t : State) (c : Call) (a : Answer) (rows : List Row) → t ≡ s → stand_after c a rows ≡ rows → CaseOf s (outcome_row c a) []
-    → ((b : Label) (sign o : Bool) → c ≡ Ask.Measure b sign → a ≡ Outcome o → ⊥) → TrueTo s.sheet rows → Next s c a rows t
+idle : (s t : State) (c : Call) (a : Result Answer Fault) (rows : List Row) → t ≡ s → stand_after c a rows ≡ rows → CaseOf s (outcome_row c a) []
+    → ((b : Label) (sign o : Bool) → c ≡ Ask.Measure b sign → a ≡ Ok (A.Outcome o) → ⊥) → TrueTo s.sheet rows → Next s c a rows t
 idle s t c a rows e same none other S =
     subst (λ (x : State). Next s c a rows x) (sym e)
     (record {
@@ -91,19 +88,19 @@ idle s t c a rows e same none other S =
 no_coins : (s t : State) (e : Event) → length s.events < 512 → coins_of e ≡ [] → t.events ≡ s.events ++ (e ∷ [])
     → spent (readings t.events) ≡ spent (readings s.events)
 no_coins s t e h none p =
-    ap (λ l. spent (readings l)) p ∙ spent_more s.events e h ∙ ap (λ l. spent (readings s.events) ++ l) none ∙ append_nil (spent (readings s.events))
+    ap (λ l. spent (readings l)) p ∙ spent_more s.events e h ∙ ap (λ l. spent (readings s.events) ++ l) none ∙ append-nil (spent (readings s.events))
 
 -- a gate done
-gate_next : (s t : State) (c : Call) (rows : List Row) (g : Gate) (e : Event) → Lawful s.sheet → gate_fault s.sheet.n g ≡ None → length s.events < 512
-    → GateDone s g e t → coins_of e ≡ [] → stand_after c Done rows ≡ map (carry g) rows → CaseOf s (outcome_row c Done) []
-    → TrueTo s.sheet rows → Next s c Done rows t
-gate_next s t c rows g e L ok h D none same k S =
+gate_next : (s t : State) (c : Call) (a : Result Answer Fault) (rows : List Row) (g : Gate) (e : Event) → Lawful s.sheet → gate_fault s.sheet.n g ≡ None
+    → length s.events < 512 → GateDone s g e t → coins_of e ≡ [] → stand_after c a rows ≡ map (carry g) rows → CaseOf s (outcome_row c a) []
+    → ((b : Label) (sign o : Bool) → c ≡ Ask.Measure b sign → a ≡ Ok (A.Outcome o) → ⊥) → TrueTo s.sheet rows → Next s c a rows t
+gate_next s t c a rows g e L ok h D none same k other S =
     let kept = no_coins s t e h none D.events in
     let len = ap length kept in
     let wide = D.sheet.same_width in
     record {
       stood = subst (λ (l : List Row). TrueTo t.sheet l) (sym same) (stood_gate s.sheet g t.sheet rows L ok D.sheet S);
-      told = λ b sign o p q ps w h. never (cc);
+      told = λ b sign o p q ps w h. absurd (other b sign o p q);
       cases = [];
       these = k;
       narrower = omega arith;
@@ -111,20 +108,20 @@ gate_next s t c rows g e L ok h D none same k S =
       order = cc (kept, D.coins);
     }
 
-step_gate : (s t : State) (g : Gate) (r : Result Unit Fault) (rows : List Row) → Lawful s.sheet → GateStep s g r t → TrueTo s.sheet rows
-    → Next s (Ask.Gate g) (gate_answer r) rows t
-step_gate s t g (Ok u) rows L D S =
+step_gate : (s t : State) (g : Gate) (rows : List Row) → Lawful s.sheet → GateStep s g (Ok tt) t → TrueTo s.sheet rows
+    → Next s (Ask.Gate g) (Ok A.Done) rows t
+step_gate s t g rows L D S =
     let w = first_none (gate_fault s.sheet.n g) (full_fault s.events) D.0 in
-    gate_next s t (Ask.Gate g) rows g (GateEvent g) L w.0 (room s.events w.1) D.1 refl refl refl S
-step_gate s t g (Err e) rows L D S = idle s t (Ask.Gate g) (Refused e) rows D.1 refl refl (λ b sign o p q. never (cc)) S
+    gate_next s t (Ask.Gate g) (Ok A.Done) rows g (GateEvent g) L w.0 (room s.events w.1) D.1 refl refl refl (λ b sign o p q. never (cc)) S
 
-step_conditional : (s t : State) (k : ℕ) (g : OneQubit) (q : ℕ) (r : Result Conditional Fault) (rows : List Row) → Lawful s.sheet
-    → ConditionalStep s k g q r t → TrueTo s.sheet rows → Next s (Ask.Conditional k g q) (conditional_answer r) rows t
-step_conditional s t k g q (Ok C.Done) rows L D S =
+step_conditional : (s t : State) (k : ℕ) (g : OneQubit) (q : ℕ) (c : Conditional) (rows : List Row) → Lawful s.sheet
+    → ConditionalStep s k g q (Ok c) t → TrueTo s.sheet rows → Next s (Ask.Conditional k g q) (Ok (A.Conditional c)) rows t
+step_conditional s t k g q C.Done rows L D S =
     let w = first_none (gate_fault s.sheet.n (One g q)) _ D.0 in
     let v = first_none _ (full_fault s.events) w.1 in
-    gate_next s t (Ask.Conditional k g q) rows (One g q) (ConditionalEvent true k g q) L w.0 (room s.events v.1) D.2 refl refl refl S
-step_conditional s t k g q (Ok C.PassedOver) rows L D S =
+    gate_next s t (Ask.Conditional k g q) (Ok (A.Conditional C.Done)) rows (One g q) (ConditionalEvent true k g q) L w.0 (room s.events v.1) D.2 refl refl refl
+    (λ b sign o p r. never (cc)) S
+step_conditional s t k g q C.PassedOver rows L D S =
     let w = first_none (gate_fault s.sheet.n (One g q)) _ D.0 in
     let v = first_none _ (full_fault s.events) w.1 in
     let P = D.2 in
@@ -140,11 +137,10 @@ step_conditional s t k g q (Ok C.PassedOver) rows L D S =
       spends = omega arith;
       order = cc (kept, P.coins);
     }
-step_conditional s t k g q (Err e) rows L D S = idle s t (Ask.Conditional k g q) (Refused e) rows D.1 refl refl (λ b sign o p r. never (cc)) S
 
-step_measure : (s t : State) (b : Label) (sign : Bool) (r : Result Bool Fault) (rows : List Row) → Lawful s.sheet → MeasureStep s b sign r t → TrueTo s.sheet rows
-    → Next s (Ask.Measure b sign) (measure_answer r) rows t
-step_measure s t b sign (Ok o) rows L D S =
+step_measure : (s t : State) (b : Label) (sign o : Bool) (rows : List Row) → Lawful s.sheet → MeasureStep s b sign (Ok o) t → TrueTo s.sheet rows
+    → Next s (Ask.Measure b sign) (Ok (A.Outcome o)) rows t
+step_measure s t b sign o rows L D S =
     let M = D.1 in
     let cs = bits M.count M.word in
     let coin = first_coin M.word in
@@ -168,14 +164,18 @@ step_measure s t b sign (Ok o) rows L D S =
       spends = omega (arith, wide.1);
       order = ap (λ l. l ++ t.coins) more ∙ append_assoc (spent (readings s.events)) cs t.coins ∙ ap (λ l. spent (readings s.events) ++ l) (sym M.drawn);
     }
-step_measure s t b sign (Err e) rows L D S = idle s t (Ask.Measure b sign) (Refused e) rows D.1 refl refl (λ b' sign' o p q. never (cc)) S
 
-pub next : (s t : State) (c : Call) (a : Answer) (rows : List Row) → Lawful s.sheet → Step s c a t → TrueTo s.sheet rows → Next s c a rows t
-next s t (Ask.Gate g) a rows L D S = subst (λ (x : Answer). Next s (Ask.Gate g) x rows t) (sym D.1) (step_gate s t g D.0 rows L D.2 S)
-next s t (Ask.Conditional k g q) a rows L D S =
-    subst (λ (x : Answer). Next s (Ask.Conditional k g q) x rows t) (sym D.1) (step_conditional s t k g q D.0 rows L D.2 S)
-next s t (Ask.Measure b sign) a rows L D S = subst (λ (x : Answer). Next s (Ask.Measure b sign) x rows t) (sym D.1) (step_measure s t b sign D.0 rows L D.2 S)
-next s t Ask.Size a rows L D S = idle s t Ask.Size a rows D.1 refl refl (λ b sign o p q. never (cc)) S
-next s t Ask.Width a rows L D S = idle s t Ask.Width a rows D.1 refl refl (λ b sign o p q. never (cc)) S
-next s t (Ask.Value b) a rows L D S = idle s t (Ask.Value b) a rows D.1 refl refl (λ b sign o p q. never (cc)) S
-next s t (Ask.Read k n) a rows L D S = idle s t (Ask.Read k n) a rows D.3 refl refl (λ b sign o p q. never (cc)) S
+pub next : (s t : State) (c : Call) (a : Result Answer Fault) (rows : List Row) → Lawful s.sheet → Step s c a t → TrueTo s.sheet rows → Next s c a rows t
+next s t (Ask.Gate g) (Ok A.Done) rows L D S = step_gate s t g rows L D S
+next s t (Ask.Conditional k g q) (Ok (A.Conditional c)) rows L D S = step_conditional s t k g q c rows L D S
+next s t (Ask.Measure b sign) (Ok (A.Outcome o)) rows L D S = step_measure s t b sign o rows L D S
+next s t Ask.Size (Ok (A.Size n)) rows L D S = idle s t Ask.Size _ rows D.1 refl refl (λ b sign o p q. never (cc)) S
+next s t Ask.Width (Ok (A.Width w)) rows L D S = idle s t Ask.Width _ rows D.1 refl refl (λ b sign o p q. never (cc)) S
+next s t (Ask.Value b) (Ok (A.Value v)) rows L D S = idle s t (Ask.Value b) _ rows D.1 refl refl (λ b sign o p q. never (cc)) S
+next s t (Ask.Read k n) (Ok (A.Line l)) rows L D S = idle s t (Ask.Read k n) _ rows D.1 refl refl (λ b sign o p q. never (cc)) S
+next s t (Ask.Gate g) (Err e) rows L D S = idle s t (Ask.Gate g) _ rows D.1 refl refl (λ b sign o p q. never (cc)) S
+next s t (Ask.Conditional k g q) (Err e) rows L D S = idle s t (Ask.Conditional k g q) _ rows D.1 refl refl (λ b sign o p q. never (cc)) S
+next s t (Ask.Measure b sign) (Err e) rows L D S = idle s t (Ask.Measure b sign) _ rows D.1 refl refl (λ b' sign' o p q. never (cc)) S
+next s t (Ask.Value b) (Err e) rows L D S = idle s t (Ask.Value b) _ rows D.1 refl refl (λ b sign o p q. never (cc)) S
+next s t (Ask.Read k n) (Err e) rows L D S = idle s t (Ask.Read k n) _ rows D.1 refl refl (λ b sign o p q. never (cc)) S
+next s t c a rows L D S = absurd D

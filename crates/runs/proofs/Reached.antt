@@ -1,7 +1,8 @@
 -- Runs made call by call.
-use Rattle.std.proofs.Common.{◌≡◌, ℕ, ◌+◌, ◌<◌, List, [], ◌∷◌, ◌++◌, length, get_or, take, set, sym, refl, ap, ◌∙◌, subst}
+use Rattle.std.proofs.Common.{◌≡◌, ℕ, ◌+◌, ◌<◌, List, [], ◌∷◌, ◌++◌, length, Result, get_or, take, set, sym, refl, ap, ◌∙◌, subst}
 use Rattle.std.proofs.lemmas.List.{take_more, take_more_set}
 use Rattle.phase.specs.Sheets.{Lawful}
+use Rattle.pauli.specs.declared.fault.Fault.{Fault}
 use Rattle.runs.specs.declared.answer.Answer.{Answer}
 use Rattle.runs.specs.declared.call.Call.{Call}
 use Rattle.runs.specs.Promises.{Moment, calls_of, answers_of, reached, History, Played}
@@ -10,7 +11,7 @@ use Rattle.runs.specs.Steps.{Step}
 use Rattle.runs.proofs.Theorem.{always}
 
 -- these calls were made, from the opening to the state s, with these answers
-pub record Reached (opened : State) (calls : List Call) (answers : List Answer) (s : State) : Type 0 where
+pub record Reached (opened : State) (calls : List Call) (answers : List (Result Answer Fault)) (s : State) : Type 0 where
   pub moments : List Moment
   pub calls_made : calls_of moments ≡ calls
   pub answers_got : answers_of moments ≡ answers
@@ -39,7 +40,7 @@ history_more : (s : State) (ms : List Moment) (m : Moment) → History s ms → 
 history_more s [] m h L D = (L, D, tt)
 history_more s (k ∷ ms) m h L D = (h.0, h.1, history_more k.after ms m h.2 L D)
 
-reached_more : (opened : State) (calls : List Call) (answers : List Answer) (s t : State) (c : Call) (a : Answer) → Reached opened calls answers s → Lawful s.sheet → Step s c a t
+reached_more : (opened : State) (calls : List Call) (answers : List (Result Answer Fault)) (s t : State) (c : Call) (a : Result Answer Fault) → Reached opened calls answers s → Lawful s.sheet → Step s c a t
     → Reached opened (calls ++ (c ∷ [])) (answers ++ (a ∷ [])) t
 reached_more opened calls answers s t c a R L D =
     let m : Moment = record { call = c; answer = a; after = t } in
@@ -53,7 +54,7 @@ reached_more opened calls answers s t c a R L D =
     }
 
 -- the call at the place i of a list, and its answer into that place of another
-pub reached_next : (opened : State) (calls : List Call) (answers : List Answer) (i : ℕ) (s t : State) (c : Call) (a : Answer) → i < length calls → i < length answers
+pub reached_next : (opened : State) (calls : List Call) (answers : List (Result Answer Fault)) (i : ℕ) (s t : State) (c : Call) (a : Result Answer Fault) → i < length calls → i < length answers
     → c ≡ get_or calls i c → Reached opened (take i calls) (take i answers) s → Lawful s.sheet → Step s c a t
     → Reached opened (take (i + 1) calls) (take (i + 1) (set answers i a)) t
 reached_next opened calls answers i s t c a h k read R L D =
@@ -62,7 +63,7 @@ reached_next opened calls answers i s t c a h k read R L D =
     subst (λ l. Reached opened l (take (i + 1) (set answers i a)) t) (sym p)
     (subst (λ l. Reached opened (take i calls ++ (c ∷ [])) l t) (sym q) (reached_more opened (take i calls) (take i answers) s t c a R L D))
 
-pub played : (opened : State) (calls : List Call) (answers : List Answer) (s : State) → opened.events ≡ [] → Reached opened calls answers s → Played opened calls answers s
+pub played : (opened : State) (calls : List Call) (answers : List (Result Answer Fault)) (s : State) → opened.events ≡ [] → Reached opened calls answers s → Played opened calls answers s
 played opened calls answers s e R = record {
   moments = R.moments;
   calls_made = R.calls_made;

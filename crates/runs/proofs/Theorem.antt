@@ -1,5 +1,5 @@
 -- The promises along any history.
-use Rattle.std.proofs.Common.{◌≡◌, ℕ, ◌+◌, ◌≤◌, Bool, List, [], ◌∷◌, ◌++◌, length, Some, None, Option, sym, refl, ap, ◌∙◌, subst, arith}
+use Rattle.std.proofs.Common.{◌≡◌, ℕ, ◌+◌, ◌≤◌, Bool, List, [], ◌∷◌, ◌++◌, length, Some, None, Ok, Option, sym, refl, ap, ◌∙◌, subst, arith}
 use Rattle.pauli.specs.declared.case.Case.{Case}
 use Rattle.pauli.specs.declared.case.Case.TheVariants.{One, Two, Three, Four}
 use Rattle.pauli.specs.declared.label.Label.{Label}
@@ -20,7 +20,7 @@ use Rattle.runs.proofs.Rows.{stood_none}
 -- what holds from a state in which some rows stand
 record Along (s : State) (rows : List Row) (ms : List Moment) : Type 0 where
   told_all : (earlier later : List Moment) (b : Label) (sign outcome : Bool) (after : State)
-      → ms ≡ earlier ++ (record { call = Measure b sign; answer = Outcome outcome; after = after } ∷ later)
+      → ms ≡ earlier ++ (record { call = Measure b sign; answer = Ok (Outcome outcome); after = after } ∷ later)
       → (ps : List Row) → Among ps (stand_since rows (told earlier)) → (product ps).label ≡ b → outcome ≡ xorb (product ps).sign sign
   cases : List Case
   these : CasesOf s ms cases
@@ -81,14 +81,14 @@ along s rows (m ∷ ms) h S =
   where
     split : Next s m.call m.answer rows m.after → Along m.after (stand_after m.call m.answer rows) ms
         → (earlier later : List Moment) (b : Label) (sign outcome : Bool) (after : State)
-        → m ∷ ms ≡ earlier ++ (record { call = Measure b sign; answer = Outcome outcome; after = after } ∷ later)
+        → m ∷ ms ≡ earlier ++ (record { call = Measure b sign; answer = Ok (Outcome outcome); after = after } ∷ later)
         → (ps : List Row) → Among ps (stand_since rows (told earlier)) → (product ps).label ≡ b → outcome ≡ xorb (product ps).sign sign
     split N A [] later b sign outcome after e ps among is =
-        let f : m ≡ record { call = Measure b sign; answer = Outcome outcome; after = after } = cc in
+        let f : m ≡ record { call = Measure b sign; answer = Ok (Outcome outcome); after = after } = cc in
         N.told b sign outcome (ap (λ (k : Moment). k.call) f) (ap (λ (k : Moment). k.answer) f) ps among is
     split N A (k ∷ earlier) later b sign outcome after e ps among is =
         let f : k ≡ m = cc in
-        let rest : ms ≡ earlier ++ (record { call = Measure b sign; answer = Outcome outcome; after = after } ∷ later) = cc in
+        let rest : ms ≡ earlier ++ (record { call = Measure b sign; answer = Ok (Outcome outcome); after = after } ∷ later) = cc in
         A.told_all earlier later b sign outcome after rest ps
         (subst (λ (j : Moment). Among ps (stand_since (stand_after j.call j.answer rows) (told earlier))) f among) is
 

@@ -1,7 +1,8 @@
 -- What holds along every run of a session.
-use Rattle.std.specs.Prelude.{◌≡◌, ℕ, ◌+◌, ◌-◌, ◌≤◌, Bool, List, [], ◌∷◌, ◌++◌, length, Some, None, Option}
+use Rattle.std.specs.Prelude.{◌≡◌, ℕ, ◌+◌, ◌-◌, ◌≤◌, Bool, List, [], ◌∷◌, ◌++◌, length, Some, None, Ok, Option, Result}
 use Rattle.pauli.specs.declared.case.Case.{Case}
 use Rattle.pauli.specs.declared.case.Case.TheVariants.{One, Two, Three, Four}
+use Rattle.pauli.specs.declared.fault.Fault.{Fault}
 use Rattle.pauli.specs.declared.label.Label.{Label}
 use Rattle.pauli.specs.declared.row.Row.{Row}
 use Rattle.pauli.specs.Bits.{xorb}
@@ -20,14 +21,14 @@ use Rattle.runs.specs.Steps.{Step}
 
 -- ---- runs
 
--- a call made, its answer, and the state after it
+-- a call made, its answer or why it was refused, and the state after it
 pub record Moment : Type 0 where
   pub call : Call
-  pub answer : Answer
+  pub answer : Result Answer Fault
   pub after : State
 
 -- the calls and answers alone
-abbrev pub told : List Moment → List (Call × Answer)
+abbrev pub told : List Moment → List (Call × Result Answer Fault)
 told [] = []
 told (m ∷ ms) = (m.call, m.answer) ∷ told ms
 
@@ -35,7 +36,7 @@ abbrev pub calls_of : List Moment → List Call
 calls_of [] = []
 calls_of (m ∷ ms) = m.call ∷ calls_of ms
 
-abbrev pub answers_of : List Moment → List Answer
+abbrev pub answers_of : List Moment → List (Result Answer Fault)
 answers_of [] = []
 answers_of (m ∷ ms) = m.answer ∷ answers_of ms
 
@@ -56,7 +57,7 @@ History s (m ∷ ms) = Lawful s.sheet × Step s m.call m.answer m.after × Histo
 abbrev pub StandingOutcomes : List Moment → Type 0
 StandingOutcomes ms =
     (earlier later : List Moment) (b : Label) (sign outcome : Bool) (after : State)
-    → ms ≡ earlier ++ (record { call = Measure b sign; answer = Outcome outcome; after = after } ∷ later)
+    → ms ≡ earlier ++ (record { call = Measure b sign; answer = Ok (Outcome outcome); after = after } ∷ later)
     → (rows : List Row) → Among rows (standing (told earlier)) → (product rows).label ≡ b → outcome ≡ xorb (product rows).sign sign
 
 -- the case, just before, of the label of an accepted measurement; other calls have none
@@ -109,7 +110,7 @@ abbrev pub Throughout : State → List Moment → Type 0
 Throughout opened ms = (earlier later : List Moment) → ms ≡ earlier ++ later → Holds opened earlier
 
 -- these calls were made in this order, from the opening to the state now, with these answers, and the promises hold throughout
-pub record Played (opened : State) (calls : List Call) (answers : List Answer) (now : State) : Type 0 where
+pub record Played (opened : State) (calls : List Call) (answers : List (Result Answer Fault)) (now : State) : Type 0 where
   pub moments : List Moment
   pub calls_made : calls_of moments ≡ calls
   pub answers_got : answers_of moments ≡ answers

@@ -1,5 +1,6 @@
 -- Which outcomes' rows stand: told from the calls and their answers alone.
-use Rattle.std.specs.Prelude.{◌≡◌, Bool, cond, ◌⊎◌, List, [], ◌∷◌, map, Some, None, Option}
+use Rattle.std.specs.Prelude.{◌≡◌, cond, ◌⊎◌, List, [], ◌∷◌, map, Some, None, Ok, Option, Result}
+use Rattle.pauli.specs.declared.fault.Fault.{Fault}
 use Rattle.pauli.specs.declared.gate.Gate.{Gate}
 use Rattle.pauli.specs.declared.gate.Gate.TheVariants.{One}
 use Rattle.pauli.specs.declared.label.Label.{Label}
@@ -10,50 +11,21 @@ use Rattle.pauli.specs.Labels.{pairing}
 use Rattle.pauli.specs.Rows.{row}
 use Rattle.phase.specs.Sheets.{Sheet}
 use Rattle.runs.specs.declared.answer.Answer.{Answer}
-use Rattle.runs.specs.declared.answer.Answer.TheVariants.{Done, PassedOver, Outcome, Size, Width, Value, Line, Refused}
+use Rattle.runs.specs.declared.answer.Answer.TheVariants as A
+use Rattle.runs.specs.declared.answer.Conditional.TheVariants as C
 use Rattle.runs.specs.declared.call.Call.{Call}
 use Rattle.runs.specs.declared.call.Call.TheVariants as Ask
 
-abbrev if_done : Gate → Answer → Option Gate
-if_done g Done = Some g
-if_done g PassedOver = None
-if_done g (Outcome o) = None
-if_done g (Size n) = None
-if_done g (Width w) = None
-if_done g (Value v) = None
-if_done g (Line l) = None
-if_done g (Refused e) = None
-
 -- the gate that a call carried out: an accepted gate's, or a conditional gate's that was done
-abbrev pub gate_done : Call → Answer → Option Gate
-gate_done (Ask.Gate g) a = if_done g a
-gate_done (Ask.Conditional k g q) a = if_done (One g q) a
-gate_done (Ask.Measure b s) a = None
-gate_done Ask.Size a = None
-gate_done Ask.Width a = None
-gate_done (Ask.Value b) a = None
-gate_done (Ask.Read k room) a = None
-
--- the outcome's row of a label measured with a sign
-abbrev row_of : Label → Bool → Answer → Option Row
-row_of b s Done = None
-row_of b s PassedOver = None
-row_of b s (Outcome o) = Some (row b (xorb s o))
-row_of b s (Size n) = None
-row_of b s (Width w) = None
-row_of b s (Value v) = None
-row_of b s (Line l) = None
-row_of b s (Refused e) = None
+abbrev pub gate_done : Call → Result Answer Fault → Option Gate
+gate_done (Ask.Gate g) (Ok A.Done) = Some g
+gate_done (Ask.Conditional k g q) (Ok (A.Conditional C.Done)) = Some (One g q)
+gate_done call answer = None
 
 -- the outcome's row of an accepted measurement
-abbrev pub outcome_row : Call → Answer → Option Row
-outcome_row (Ask.Gate g) a = None
-outcome_row (Ask.Conditional k g q) a = None
-outcome_row (Ask.Measure b s) a = row_of b s a
-outcome_row Ask.Size a = None
-outcome_row Ask.Width a = None
-outcome_row (Ask.Value b) a = None
-outcome_row (Ask.Read k room) a = None
+abbrev pub outcome_row : Call → Result Answer Fault → Option Row
+outcome_row (Ask.Measure b s) (Ok (A.Outcome o)) = Some (row b (xorb s o))
+outcome_row call answer = None
 
 -- a gate carries each row
 abbrev pub carried : Option Gate → List Row → List Row
@@ -71,16 +43,16 @@ joined (Some r) rows = r ∷ commuting r.label rows
 joined None rows = rows
 
 -- what one call and its answer make of the rows that stand; all but those above leave them
-abbrev pub stand_after : Call → Answer → List Row → List Row
+abbrev pub stand_after : Call → Result Answer Fault → List Row → List Row
 stand_after c a rows = joined (outcome_row c a) (carried (gate_done c a) rows)
 
 -- what some calls with their answers, first call first, make of them
-abbrev pub stand_since : List Row → List (Call × Answer) → List Row
+abbrev pub stand_since : List Row → List (Call × Result Answer Fault) → List Row
 stand_since rows [] = rows
 stand_since rows (p ∷ ps) = stand_since (stand_after p.0 p.1 rows) ps
 
 -- what stands after the calls made to a session just opened, where no rows stood
-abbrev pub standing : List (Call × Answer) → List Row
+abbrev pub standing : List (Call × Result Answer Fault) → List Row
 standing ps = stand_since [] ps
 
 -- some rows, in any order and number, each one of those that stand

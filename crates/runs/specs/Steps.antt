@@ -1,5 +1,5 @@
 -- What each call of a session does, in one state, and answers.
-use Rattle.std.specs.Prelude.{◌≡◌, ℕ, ◌^◌, ◌<◌, Bool, true, false, ◌⊎◌, [], ◌∷◌, ◌++◌, length, Some, None, Ok, Err, Option, Result}
+use Rattle.std.specs.Prelude.{◌≡◌, ℕ, ◌^◌, ◌<◌, Bool, true, false, ◌⊎◌, [], ◌∷◌, ◌++◌, length, Some, None, Ok, Err, Result}
 use Rattle.pauli.specs.declared.case.Case.{Case}
 use Rattle.pauli.specs.declared.fault.Fault.{Fault}
 use Rattle.pauli.specs.declared.fault.Fault.TheVariants.{TooFewCoins}
@@ -15,10 +15,9 @@ use Rattle.journal_lines.specs.declared.event.Event.{Event}
 use Rattle.journal_lines.specs.declared.event.Event.TheVariants.{Gate as GateEvent, Conditional as ConditionalEvent, Measurement as MeasurementEvent}
 use Rattle.journal.specs.Journals.{outcomes, kth}
 use Rattle.runs.specs.declared.answer.Answer.{Answer}
-use Rattle.runs.specs.declared.answer.Answer.TheVariants.{Done, PassedOver, Outcome, Size as SizeIs, Width as WidthIs, Value as ValueIs, Line as LineIs, Refused}
+use Rattle.runs.specs.declared.answer.Answer.TheVariants as A
 use Rattle.runs.specs.declared.answer.Conditional.{Conditional}
 use Rattle.runs.specs.declared.answer.Conditional.TheVariants as C
-use Rattle.runs.specs.declared.answer.Line.{Line}
 use Rattle.runs.specs.declared.call.Call.{Call}
 use Rattle.runs.specs.declared.call.Call.TheVariants as Ask
 use Rattle.runs.specs.Readings.{ReadLine}
@@ -86,33 +85,19 @@ MeasureStep s b sign (Err e) t = MeasureRefused s b e × (t ≡ s)
 
 -- ---- any call
 
-abbrev pub gate_answer : Result Unit Fault → Answer
-gate_answer (Ok done) = Done
-gate_answer (Err e) = Refused e
-
-abbrev pub conditional_answer : Result Conditional Fault → Answer
-conditional_answer (Ok C.Done) = Done
-conditional_answer (Ok C.PassedOver) = PassedOver
-conditional_answer (Err e) = Refused e
-
-abbrev pub measure_answer : Result Bool Fault → Answer
-measure_answer (Ok outcome) = Outcome outcome
-measure_answer (Err e) = Refused e
-
-abbrev pub asked_answer : Result (Option Bool) Fault → Answer
-asked_answer (Ok v) = ValueIs v
-asked_answer (Err e) = Refused e
-
-abbrev pub line_answer : Result Line Fault → Answer
-line_answer (Ok l) = LineIs l
-line_answer (Err e) = Refused e
-
--- one call in one state: its answer, and the state after it. Questions and readings leave the state
-abbrev pub Step : State → Call → Answer → State → Type 0
-Step s (Ask.Gate g) a t = (r : Result Unit Fault) × (a ≡ gate_answer r) × GateStep s g r t
-Step s (Ask.Conditional k g q) a t = (r : Result Conditional Fault) × (a ≡ conditional_answer r) × ConditionalStep s k g q r t
-Step s (Ask.Measure b sign) a t = (r : Result Bool Fault) × (a ≡ measure_answer r) × MeasureStep s b sign r t
-Step s Ask.Size a t = (a ≡ SizeIs s.sheet.n) × (t ≡ s)
-Step s Ask.Width a t = (a ≡ WidthIs s.sheet.width) × (t ≡ s)
-Step s (Ask.Value b) a t = (a ≡ asked_answer (value_answer s.sheet b)) × (t ≡ s)
-Step s (Ask.Read k room) a t = (r : Result Line Fault) × (a ≡ line_answer r) × ReadLine s.events k room r × (t ≡ s)
+-- one call in one state: its answer or why it is refused, and the state after it. Questions and readings leave the state
+abbrev pub Step : State → Call → Result Answer Fault → State → Type 0
+Step s (Ask.Gate g) (Ok A.Done) t = GateStep s g (Ok tt) t
+Step s (Ask.Gate g) (Err e) t = GateStep s g (Err e) t
+Step s (Ask.Conditional k g q) (Ok (A.Conditional c)) t = ConditionalStep s k g q (Ok c) t
+Step s (Ask.Conditional k g q) (Err e) t = ConditionalStep s k g q (Err e) t
+Step s (Ask.Measure b sign) (Ok (A.Outcome o)) t = MeasureStep s b sign (Ok o) t
+Step s (Ask.Measure b sign) (Err e) t = MeasureStep s b sign (Err e) t
+Step s Ask.Size (Ok (A.Size n)) t = (n ≡ s.sheet.n) × (t ≡ s)
+Step s Ask.Width (Ok (A.Width w)) t = (w ≡ s.sheet.width) × (t ≡ s)
+Step s (Ask.Value b) (Ok (A.Value v)) t = (Ok v ≡ value_answer s.sheet b) × (t ≡ s)
+Step s (Ask.Value b) (Err e) t = (Err e ≡ value_answer s.sheet b) × (t ≡ s)
+Step s (Ask.Read k room) (Ok (A.Line l)) t = ReadLine s.events k room (Ok l) × (t ≡ s)
+Step s (Ask.Read k room) (Err e) t = ReadLine s.events k room (Err e) × (t ≡ s)
+-- no call has an answer of another kind, and the size and the width are never refused
+Step s call answer t = ⊥

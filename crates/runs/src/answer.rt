@@ -1,9 +1,9 @@
-// What a session answers.
+// What a session answers to the calls that it accepts.
 ghost use Rattle.std.specs.Prelude.{◌≡◌, ◌≤◌, length as length_of, take};
 
-use pauli::fault::Fault;
+use journal_lines::lines::LONGEST_LINE;
 
-// What became of a conditional gate.
+// What became of a conditional gate. The call succeeded either way, so this is no Result.
 #[derive(Clone, Copy, PartialEq, Eq, Debug)]
 pub enum Conditional {
     Done,
@@ -11,9 +11,10 @@ pub enum Conditional {
 }
 
 // A line read from the journal: the first `length` bytes of the text. The others are 0.
+// A buffer and a length, since an answer is copied and nothing here has a heap.
 #[derive(Clone, Copy, PartialEq, Eq, Debug)]
 pub struct Line {
-    pub text: [u8; 144],
+    pub text: [u8; LONGEST_LINE],
     pub length: usize,
     ghost whole: { length_of text ≡ 144 },
     ghost within: { length ≤ 144 },
@@ -30,15 +31,13 @@ impl Line {
 
 #[derive(Clone, Copy, PartialEq, Eq, Debug)]
 pub enum Answer {
-    // A gate, or a conditional gate, was done.
+    // A gate was done.
     Done,
-    // A conditional gate was passed over.
-    PassedOver,
+    Conditional(Conditional),
     // A label was measured.
     Outcome(bool),
     Size(u32),
     Width(u32),
     Value(Option<bool>),
     Line(Line),
-    Refused(Fault),
 }

@@ -13,6 +13,7 @@ pub enum Call {
     },
     Measure {
         label: Label,
+        // True for minus, as in a row.
         sign: bool,
     },
     Size,

@@ -2,7 +2,8 @@
 use Rattle.std.proofs.Common.{◌≡◌, ℕ, zero, suc, ◌+◌, ◌^◌, ◌<◌, ◌≤◌, Bool, true, false, cond, not, ◌&&◌, eqb, ltb, leb, ◌⊎◌, List, [], ◌∷◌, length, Some, None, Ok, Option, refl, ap, ◌∙◌, subst, inl, inr, arith, eq-eqb}
 use mathlib.Core.Bool.{beq}
 use Rattle.std.proofs.lemmas.Bool.Decides.{nat_tests}
-use Rattle.std.specs.List.{slice_get}
+use Rattle.std.proofs.lemmas.Option.{none-some, slice_get_within}
+use Rattle.std.specs.Cmp.Derive.{both_true}
 use Rattle.pauli.specs.declared.case.Case.{Case}
 use Rattle.pauli.specs.declared.case.Case.TheVariants.{One, Two, Three, Four}
 use Rattle.pauli.specs.declared.fault.Fault.{Fault}
@@ -26,9 +27,6 @@ use Rattle.journal.specs.Journals.{kth, outcomes, answer}
 use Rattle.journal_lines.specs.Lawful.{count_ok, first_ok, measured_ok, sound}
 use Rattle.runs.specs.Refusals.{before}
 
-both : (p q : Bool) → p ≡ true → q ≡ true → (p && q) ≡ true
-both p q e f = grind arith
-
 -- ---- gates
 
 size_right : (n : ℕ) → (1 ≤ n) × (n ≤ 64) → size_ok n ≡ true
@@ -46,7 +44,7 @@ two_placeable : (n c t : ℕ) (x y : Fault) → n ≤ 64 → cond ((leb 1 c && l
 two_placeable n c t x y h e = grind (arith, nat_tests)
 
 pub accepted_placeable : (n : ℕ) (g : Gate) → n ≤ 64 → gate_fault n g ≡ None → placeable g ≡ true
-accepted_placeable n (G.One g q) h e = both (on_board 64 q) true (one_placeable n q BadQubit h e) refl
+accepted_placeable n (G.One g q) h e = both_true (one_placeable n q BadQubit h e) refl
 accepted_placeable n (G.Cx c t) h e = two_placeable n c t BadQubit SameQubit h e
 
 -- ---- conditional gates
@@ -55,20 +53,9 @@ pub there : (f : Fault) (o : Option Bool) (x : Bool) → Ok x ≡ answer f o →
 there f (Some y) x e = cc
 there f None x e = cc
 
-nth_within : (xs : List Bool) (k : ℕ) (x : Bool) → slice_get xs k ≡ Some x → k < length xs
-nth_within [] k x e = absurd (go e)
-  where
-    go : None ≡ Some x → ⊥
-    go e = let z : ◌≡◌ {A = ℕ} 0 1 = cc in omega arith
-nth_within (y ∷ ys) zero x e = omega arith
-nth_within (y ∷ ys) (suc k) x e = let h = nth_within ys k x e in omega arith
-
 kth_within : (xs : List Bool) (k : ℕ) (x : Bool) → kth xs k ≡ Some x → (1 ≤ k) × (k ≤ length xs)
-kth_within xs zero x e = absurd (go e)
-  where
-    go : None ≡ Some x → ⊥
-    go e = let z : ◌≡◌ {A = ℕ} 0 1 = cc in omega arith
-kth_within xs (suc k) x e = let h = nth_within xs k x e in (omega arith, omega arith)
+kth_within xs zero x e = absurd (none-some x e)
+kth_within xs (suc k) x e = let h = slice_get_within xs k x e in (omega arith, omega arith)
 
 outcomes_fewer : (es : List Event) → length (outcomes es) ≤ length es
 outcomes_fewer [] = omega arith
@@ -83,7 +70,7 @@ conditional_sound es k o d g q e p =
     let w = kth_within (outcomes es) k o e in
     let h : 1 ≤ k = w.0 in
     let l : k < length es + 1 = omega (arith, w.1, outcomes_fewer es) in
-    both (leb 1 k && ltb k (length es + 1)) (on_board 64 q) (grind (arith, nat_tests)) (left (on_board 64 q) p)
+    both_true {s = leb 1 k && ltb k (length es + 1)} (grind (arith, nat_tests)) (left (on_board 64 q) p)
   where
     left : (w : Bool) → (w && true) ≡ true → w ≡ true
     left true e = refl
@@ -141,11 +128,8 @@ pub measured_right : (s : Sheet) → Lawful s → (b : Label) (sign : Bool) (c :
     → measured_ok (record { sign = sign; size = s.n; label = b; case = c; outcome = o; count = k; coins = word }) ≡ true
 unfolding measured_ok
 measured_right s L b sign c k word o t f l h e =
-    both (size_ok s.n && fits s.n b) ((count_ok c s.n k && ltb word (2 ^ k)) && first_ok c o word)
-    (both (size_ok s.n) (fits s.n b) (size_right s.n L.size) f)
-    (both (count_ok c s.n k && ltb word (2 ^ k)) (first_ok c o word)
-    (both (count_ok c s.n k) (ltb word (2 ^ k)) (count_right s L b (fits_within s.n b f) c k l) (below word (2 ^ k) h))
-    (first_right s b sign word c k o t e))
+    both_true (both_true (size_right s.n L.size) f)
+    (both_true (both_true (count_right s L b (fits_within s.n b f) c k l) (below word (2 ^ k) h)) (first_right s b sign word c k o t e))
   where
     below : (m n : ℕ) → m < n → ltb m n ≡ true
     below m n h = grind (arith, nat_tests)

@@ -7,6 +7,7 @@ ghost use Rattle.session.specs.Seen.{seen};
 
 use crate::session::Session;
 use coins::source::CoinSource;
+use pauli::fault::Fault;
 use phase::point::PhasePoint;
 use phase::sheet::ValueSheet;
 use runs::answer::Answer;
@@ -18,7 +19,7 @@ pub fn play<P: PhasePoint, S: CoinSource>(
     point: P,
     source: S,
     calls: &[Call],
-    answers: &mut [Answer],
+    answers: &mut [Result<Answer, Fault>],
 ) -> Session<P, S>
     ensures played { Played (state (P.ValueSheet.sheet point) (S.coins source) [])
         (take (made calls.now answers.old) calls.now)
@@ -28,8 +29,9 @@ pub fn play<P: PhasePoint, S: CoinSource>(
         ≡ drop (made calls.now answers.old) answers.old }
 {
     let mut session = Session::open(point, source);
-    for i in 0..calls.len().min(answers.len()) {
-        answers[i] = session.call(calls[i]);
+    // The answers by their index: of a zip with `answers.iter_mut()` a proof knows no answer once it is over.
+    for (i, call) in calls.iter().enumerate().take(answers.len()) {
+        answers[i] = session.call(*call);
     }
     session
 }

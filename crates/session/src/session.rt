@@ -1,19 +1,18 @@
 // A session: a point and a source, which are its own alone, and the journal of what was done and measured.
-ghost use Rattle.std.specs.Prelude.{◌≡◌, ◌+◌, ◌<◌, ◌≤◌, true, [], ◌∷◌, ◌++◌, length, is_err};
+ghost use Rattle.std.specs.Prelude.{◌≡◌, ◌≤◌, true, [], length, is_err};
 ghost use Rattle.phase.specs.Answers.{value_answer};
 ghost use Rattle.pauli.specs.Faults.{Answers};
 ghost use Rattle.pauli.specs.Gates.{gate_fault, placeable};
-ghost use Rattle.journal.specs.Journals.{events};
-ghost use Rattle.journal_lines.specs.Lawful.{sound};
+ghost use Rattle.journal.specs.Places.{all_lawful};
 ghost use Rattle.runs.specs.States.{state};
-ghost use Rattle.runs.specs.declared.answer.Answer.TheVariants.{Refused};
-ghost use Rattle.runs.specs.Readings.{Read, ReadWithin, ReadLine};
+ghost use Rattle.runs.specs.Readings.{Read, ReadLine};
 ghost use Rattle.runs.specs.Steps.{GateStep, ConditionalStep, MeasureStep, Step};
 ghost use Rattle.session.specs.Seen.{seen};
 
 use coins::source::{CoinSource, draw_word};
 use journal::Journal;
 use journal_lines::event::{Event, Measurement};
+use journal_lines::lines::LONGEST_LINE;
 use pauli::fault::Fault;
 use pauli::gate::{Gate, OneQubit};
 use pauli::label::Label;
@@ -22,23 +21,17 @@ use phase::sheet::ValueSheet;
 use runs::answer::{Answer, Conditional, Line};
 use runs::call::Call;
 
+// Contracts see it by `seen`: a Model would hide the point and the source, and `self.new ≡ self.old` would promise less of them.
 pub struct Session<P: PhasePoint, S: CoinSource> {
     point: P,
     source: S,
     journal: Journal,
 }
 
-// Adds an event that the journal takes.
-fn record(journal: &mut Journal, event: Event)
-    requires sound { sound (length (events journal.old) + 1) event ≡ true }
-    requires room { length (events journal.old) < 512 }
-    ensures { events journal.new ≡ events journal.old ++ (event ∷ []) }
-{
-    journal.add(event).unwrap()
-}
-
 impl<P: PhasePoint, S: CoinSource> Session<P, S> {
-    // Refuses a gate's qubits before the point would have changed.
+    // Each call that may refuse promises `kept` itself: no type can say what stays from one moment to the next.
+
+    // Refuses a gate's qubits before anything has changed. Only the refusal counts: the point takes the gate as it came.
     fn check(&self, gate: Gate) -> Result<(), Fault>
         ensures { Answers (gate_fault (P.ValueSheet.sheet self.now.point).n gate) (λ _. placeable gate ≡ true) result }
     {
@@ -87,12 +80,8 @@ impl<P: PhasePoint, S: CoinSource> Session<P, S> {
         ensures kept { is_err result ≡ true → self.new ≡ self.old }
     {
         self.check(gate)?;
-        if self.journal.is_full() {
-            return Err(Fault::JournalFull);
-        }
-        self.point.gate(gate)?;
-        record(&mut self.journal, Event::Gate(gate));
-        Ok(())
+        self.journal.add(Event::Gate(gate))?;
+        self.point.gate(gate)
     }
 
     // A one-qubit gate that is done if the outcome of that number is 1, and passed over otherwise. Outcomes count from 1.
@@ -108,18 +97,12 @@ impl<P: PhasePoint, S: CoinSource> Session<P, S> {
         let turn = Gate::One { gate, qubit };
         self.check(turn)?;
         let done = self.journal.outcome(outcome)?;
-        if self.journal.is_full() {
-            return Err(Fault::JournalFull);
-        }
-        record(
-            &mut self.journal,
-            Event::Conditional {
-                done,
-                outcome,
-                gate,
-                qubit,
-            },
-        );
+        self.journal.add(Event::Conditional {
+            done,
+            outcome,
+            gate,
+            qubit,
+        })?;
         if !done {
             return Ok(Conditional::PassedOver);
         }
@@ -137,9 +120,7 @@ impl<P: PhasePoint, S: CoinSource> Session<P, S> {
             return Err(Fault::JournalFull);
         }
         let size = self.point.size();
-        let Some(coins) = draw_word(&mut self.source, count) else {
-            return Err(Fault::TooFewCoins);
-        };
+        let coins = draw_word(&mut self.source, count).ok_or(Fault::TooFewCoins)?;
         let outcome = self.point.measure(label, sign, coins)?;
         let measurement = Measurement {
             sign,
@@ -150,7 +131,8 @@ impl<P: PhasePoint, S: CoinSource> Session<P, S> {
             count,
             coins,
         };
-        record(&mut self.journal, Event::Measurement(measurement));
+        // It is lawful, and there is room: the journal takes it.
+        self.journal.add(Event::Measurement(measurement)).unwrap();
         Ok(outcome)
     }
 
@@ -172,9 +154,11 @@ impl<P: PhasePoint, S: CoinSource> Session<P, S> {
     {
         self.point.value(label)
     }
+
     // How many entries the journal has.
     pub fn entries(&self) -> u32
-        ensures { result ≡ length (events self.now.journal) }
+        ensures count { result ≡ length self.now.journal }
+        ensures within { length self.now.journal ≤ 512 }
     {
         self.journal.len()
     }
@@ -188,61 +172,42 @@ impl<P: PhasePoint, S: CoinSource> Session<P, S> {
 
     // Reads the line of an entry into the start of a buffer and answers its length. Entries count from 1.
     pub fn read(&self, entry: u32, out: &mut [u8]) -> Result<usize, Fault>
-        ensures { Read (events self.now.journal) entry out.old out.new result }
+        ensures line { Read self.now.journal entry out.old out.new result }
+        ensures lawful { all_lawful 1 self.now.journal ≡ true }
     {
         self.journal.entry(entry)?.write_line(out)
     }
 
-    // Reads the line of an entry into the first `room` bytes of a page.
-    fn read_within(&self, entry: u32, room: usize, page: &mut [u8]) -> Result<usize, Fault>
-        requires { room ≤ length page.old }
-        ensures { ReadWithin (events self.now.journal) entry room page.old page.new result }
-    {
-        self.read(entry, &mut page[0..room])
-    }
-
     // Reads the line of an entry into an answer.
     fn read_line(&self, entry: u32, room: usize) -> Result<Line, Fault>
-        ensures { ReadLine (events self.now.journal) entry room result }
+        ensures { ReadLine self.now.journal entry room result }
     {
-        let mut text = [0; 144];
-        let length = self.read_within(entry, room.min(144), &mut text)?;
+        let mut text = [0; LONGEST_LINE];
+        let length = self.read(entry, &mut text[..room.min(LONGEST_LINE)])?;
         Ok(Line { text, length })
     }
 
     // Makes any call.
-    pub fn call(&mut self, call: Call) -> Answer
+    pub fn call(&mut self, call: Call) -> Result<Answer, Fault>
         ensures step { Step (seen P.ValueSheet.sheet S.coins self.old) call result (seen P.ValueSheet.sheet S.coins self.new) }
-        ensures kept { (e : Fault) → result ≡ Refused e → self.new ≡ self.old }
+        ensures kept { is_err result ≡ true → self.new ≡ self.old }
     {
-        match call {
-            Call::Gate(gate) => match self.gate(gate) {
-                Ok(()) => Answer::Done,
-                Err(fault) => Answer::Refused(fault),
-            },
+        let answer = match call {
+            Call::Gate(gate) => {
+                self.gate(gate)?;
+                Answer::Done
+            }
             Call::Conditional {
                 outcome,
                 gate,
                 qubit,
-            } => match self.conditional(outcome, gate, qubit) {
-                Ok(Conditional::Done) => Answer::Done,
-                Ok(Conditional::PassedOver) => Answer::PassedOver,
-                Err(fault) => Answer::Refused(fault),
-            },
-            Call::Measure { label, sign } => match self.measure(label, sign) {
-                Ok(outcome) => Answer::Outcome(outcome),
-                Err(fault) => Answer::Refused(fault),
-            },
+            } => Answer::Conditional(self.conditional(outcome, gate, qubit)?),
+            Call::Measure { label, sign } => Answer::Outcome(self.measure(label, sign)?),
             Call::Size => Answer::Size(self.size()),
             Call::Width => Answer::Width(self.width()),
-            Call::Value(label) => match self.value(label) {
-                Ok(value) => Answer::Value(value),
-                Err(fault) => Answer::Refused(fault),
-            },
-            Call::Read { entry, room } => match self.read_line(entry, room) {
-                Ok(line) => Answer::Line(line),
-                Err(fault) => Answer::Refused(fault),
-            },
-        }
+            Call::Value(label) => Answer::Value(self.value(label)?),
+            Call::Read { entry, room } => Answer::Line(self.read_line(entry, room)?),
+        };
+        Ok(answer)
     }
 }

@@ -2,7 +2,7 @@
 use Rattle.std.proofs.Common.{◌≡◌, ℕ, zero, suc, ◌+◌, ◌<◌, Bool, true, false, cond, ◌&&◌, eqb, List, length, get_or, set, sym, refl, ap, ◌∙◌, ap₂, add-one, arith, get_or-set_other, get_or-set_same, below_more, ne_eqb, eqb-true}
 use borrow.Author.Tests.{eqb-false}
 use Rattle.pauli_laws.specs.Words.{num}
-use Rattle.tableau_laws.specs.Places.{count, nth, all_below}
+use Rattle.tableau_laws.specs.Places.{count, nth}
 use Rattle.tableau_laws.proofs.Places.{nth_at, nth_here}
 
 pub count_more : (t : ℕ → Bool) (k : ℕ) (b : Bool) → t k ≡ b → count t (k + 1) ≡ count t k + num b
@@ -49,25 +49,29 @@ filled_same d h t zs i e was k less =
     let c : count t (i + 1) ≡ count t i + 0 = count_more t i false e in
     was k (omega arith) ∙ ap h (sym (nth_old t i k (omega arith)))
 
--- ---- tests of the first places
+-- tests that agree below k
+pub count_same : (t u : ℕ → Bool) (k : ℕ) → ((i : ℕ) → i < k → t i ≡ u i) → count t k ≡ count u k
+count_same t u zero h = refl
+count_same t u (suc k) h = ap₂ (λ (b : Bool) (n : ℕ). num b + n) (h k (omega arith)) (count_same t u k (λ i lt. h i (omega arith)))
 
-pub all_more : (t : ℕ → Bool) (i : ℕ) → all_below i t ≡ true → t i ≡ true → all_below (i + 1) t ≡ true
-all_more t i a b = ap (λ (n : ℕ). all_below n t) (add-one i) ∙ ap₂ ◌&&◌ a b
+pub nth_same : (t u : ℕ → Bool) (k : ℕ) → ((i : ℕ) → i < k → t i ≡ u i) → (i : ℕ) → nth t k i ≡ nth u k i
+nth_same t u zero h i = refl
+nth_same t u (suc k) h i =
+    ap₂ (λ (b : Bool) (n : ℕ). cond (b && eqb n i) k (nth t k i)) (h k (omega arith)) (count_same t u k (λ j lt. h j (omega arith)))
+    ∙ ap (λ (n : ℕ). cond (u k && eqb (count u k) i) k n) (nth_same t u k (λ j lt. h j (omega arith)) i)
 
-and_false : (p : Bool) → (p && false) ≡ false
-and_false true = refl
-and_false false = refl
+-- what g reads of a list is what f says, at one place more
+pub put_more : {A B : Type 0} (d : A) (g : A → B) (f : ℕ → B) (xs : List A) (i : ℕ) (v : A) → i < length xs → g v ≡ f i
+    → ((k : ℕ) → k < i → g (get_or xs k d) ≡ f k) → (k : ℕ) → k < i + 1 → g (get_or (set xs i v) k d) ≡ f k
+put_more d g f xs i v h e was =
+    below_more (λ k. g (get_or (set xs i v) k d) ≡ f k) i (λ k lt. ap g (get_or-set_other xs i k v d (λ same. omega arith)) ∙ was k lt)
+    (ap g (get_or-set_same xs i v d h) ∙ e)
 
-pub all_not : (t : ℕ → Bool) (n i : ℕ) → i < n → t i ≡ false → all_below n t ≡ false
-all_not t zero i h e = absurd (omega arith)
-all_not t (suc n) i h e = go (eqb i n) refl (λ lt. all_not t n i lt e)
+-- and after a write at one place
+pub put_one : {A B : Type 0} (d : A) (g : A → B) (xs : List A) (k : ℕ) (v : A) (x y : B) (i : ℕ) → k < length xs → g v ≡ x → g (get_or xs i d) ≡ y
+    → g (get_or (set xs k v) i d) ≡ cond (eqb i k) x y
+put_one {A} {B} d g xs k v x y i lt here there = go (eqb i k) refl
   where
-    go : (b : Bool) → eqb i n ≡ b → (i < n → all_below n t ≡ false) → (all_below n t && t n) ≡ false
-    go true same before = ap (λ (p : Bool). all_below n t && p) (ap t (sym (eqb-true i n same)) ∙ e) ∙ and_false (all_below n t)
-    go false other before = let o : i ≡ n → ⊥ = eqb-false i n other in ap (λ (p : Bool). p && t n) (before (omega arith))
-
--- a list that has what f says at one place more
-pub put_more : {A : Type 0} (d : A) (f : ℕ → A) (xs : List A) (i : ℕ) (v : A) → i < length xs → v ≡ f i → ((k : ℕ) → k < i → get_or xs k d ≡ f k)
-    → (k : ℕ) → k < i + 1 → get_or (set xs i v) k d ≡ f k
-put_more d f xs i v h e was =
-    below_more (λ k. get_or (set xs i v) k d ≡ f k) i (λ k lt. get_or-set_other xs i k v d (λ same. omega arith) ∙ was k lt) (get_or-set_same xs i v d h ∙ e)
+    go : (t : Bool) → eqb i k ≡ t → g (get_or (set xs k v) i d) ≡ cond t x y
+    go true e = ap (λ (j : ℕ). g (get_or (set xs k v) j d)) (eqb-true i k e) ∙ ap g (get_or-set_same xs k v d lt) ∙ here
+    go false e = let o : i ≡ k → ⊥ = eqb-false i k e in ap g (get_or-set_other xs k i v d o) ∙ there

@@ -1,4 +1,5 @@
 mod Counted
+mod Questions
 mod Passes
 mod Parts
 mod Narrow

@@ -1,22 +1,21 @@
 -- The rows that a store holds, by place, and what they mean.
-use Rattle.std.specs.Prelude.{ℕ, ◌-◌, Bool, slice_index_or}
+use Rattle.std.specs.Prelude.{ℕ, ◌-◌, Bool}
 use Rattle.pauli.specs.declared.label.Label.{Label}
 use Rattle.pauli.specs.declared.row.Row.{Row}
-use Rattle.pauli.specs.Labels.{zero_label}
-use Rattle.pauli.specs.Rows.{zero_row}
 use Rattle.phase.specs.Sheets.{Sheet}
 use Rattle.tableau_laws.specs.Patterns.{pattern_ok}
 use Rattle.tableau_laws.specs.Rules.{Rows, sheet_of}
 use Rattle.tableau_rows.specs.declared.store.RowStore.{RowStore}
+use Rattle.tableau_rows.specs.Parts.{row_in, pair_in}
 
 abbrev pub D_of : RowStore → ℕ → Label
-D_of s i = slice_index_or s.destabilizers i zero_label
+D_of s i = (pair_in s.pairs i).destabilizer
 
 abbrev pub E_of : RowStore → ℕ → Row
-E_of s i = slice_index_or s.stabilizers i zero_row
+E_of s i = (pair_in s.pairs i).stabilizer
 
 abbrev pub J_of : RowStore → ℕ → Row
-J_of s i = slice_index_or s.jordan_wigner i zero_row
+J_of s i = row_in s.jordan_wigner i
 
 abbrev pub rows_of : RowStore → Rows
 rows_of s = record { m = s.size - s.width; w = s.width; D = D_of s; E = E_of s; J = J_of s }

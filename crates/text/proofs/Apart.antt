@@ -4,26 +4,17 @@ use Rattle.pauli.specs.declared.gate.Gate.TheVariants as G
 use Rattle.text.specs.Texts.{Any, num, Short, sign_text, gate_byte, turn_text, Turn, pair_text, gate_text, Gated}
 use Rattle.text.proofs.Fields.{both, Both}
 use Rattle.text.proofs.Gates.{gate_same, not_c}
-use Rattle.text.proofs.Numbers.{At, seen}
-use Rattle.text.proofs.Numbers.At.{one as one_digit, two as two_digits, three as three_digits}
+use Rattle.text.proofs.Cuts.{apart}
+use Rattle.text.proofs.Numbers.{num_same, num_without}
 
 -- fields of the same text are of one value, and end together
 abbrev pub Apart : {A : Type 0} (w : A → List ℕ) (L : A → Type 0) (end : ℕ) → Type 0
 Apart {A} w L end = (a b : A) (r s : List ℕ) → L a → L b → w a ++ end ∷ r ≡ w b ++ end ∷ s → (a ≡ b) × (r ≡ s)
 
 pub num_apart : (end : ℕ) → end < 48 → Apart num Short end
-num_apart end low a b r s l k e = go (seen (num a ++ end ∷ r) 0 end a r l refl) (seen (num a ++ end ∷ r) 0 end b s k e)
-  where
-    go : At (num a ++ end ∷ r) 0 end a r → At (num a ++ end ∷ r) 0 end b s → (a ≡ b) × (r ≡ s)
-    go (one_digit h p q t) (one_digit h' p' q' t') = (omega arith, sym t ∙ t')
-    go (one_digit h p q t) (two_digits x y g1 g2 g3 v i j m u) = absurd (omega arith)
-    go (one_digit h p q t) (three_digits x y z g1 g2 g3 g4 v i j m n u) = absurd (omega arith)
-    go (two_digits x y g1 g2 g3 v i j m u) (one_digit h p q t) = absurd (omega arith)
-    go (two_digits x y g1 g2 g3 v i j m u) (two_digits x' y' g1' g2' g3' v' i' j' m' u') = (omega arith, sym u ∙ u')
-    go (two_digits x y g1 g2 g3 v i j m u) (three_digits x' y' z' g1' g2' g3' g4' v' i' j' m' n' u') = absurd (omega arith)
-    go (three_digits x y z g1 g2 g3 g4 v i j m n u) (one_digit h p q t) = absurd (omega arith)
-    go (three_digits x y z g1 g2 g3 g4 v i j m n u) (two_digits x' y' g1' g2' g3' v' i' j' m' u') = absurd (omega arith)
-    go (three_digits x y z g1 g2 g3 g4 v i j m n u) (three_digits x' y' z' g1' g2' g3' g4' v' i' j' m' n' u') = (omega arith, sym u ∙ u')
+num_apart end low a b r s l k e =
+    let o = apart end (num a) (num b) r s (num_without end low a l) (num_without end low b k) e in
+    (num_same a b l k o.0, o.1)
 
 pub both_apart : {A B : Type 0} (w : A → List ℕ) (L : A → Type 0) (v : B → List ℕ) (M : B → Type 0) (end : ℕ) → Apart w L 44 → Apart v M end → Apart (both w L v M) (Both w L v M) end
 both_apart w L v M end x y a b r s l k e =

@@ -1,29 +1,34 @@
 -- Fields made of others: one value named by another, and one field after another.
-use Rattle.std.proofs.Common.{◌≡◌, ℕ, ◌+◌, ◌<◌, List, ◌∷◌, ◌++◌, get_or, drop, sym, refl, ap, ◌∙◌, append_assoc, arith}
+use Rattle.std.proofs.Common.{◌≡◌, ℕ, ◌+◌, ◌<◌, List, ◌∷◌, ◌++◌, get_or, drop, sym, refl, ap, ◌∙◌, subst, append_assoc, add-zero, arith}
+use Rattle.std.specs.Borrow.{Bor}
+use Rattle.std.proofs.lemmas.List.{get_or-drop}
 use Rattle.text.specs.Reading.{Hit, Miss}
 use Rattle.text.specs.Texts.{Any, one}
 use Rattle.text.proofs.Places.{peel, unpeel, present}
 
--- one byte
-pub hit_byte : (t : List ℕ) (at end b : ℕ) → 0 < end → get_or t at 0 ≡ b → get_or t (at + 1) 0 ≡ end → Hit one Any end t at b (at + 2)
-hit_byte t at end b m e f =
+-- one byte, where `rest` is what stands from the place on
+pub hit_byte : (t rest : List ℕ) (at end : ℕ) → 0 < end → rest ≡ drop at t → get_or rest 1 0 ≡ end → Hit one Any end t at (get_or rest 0 0) (at + 2)
+hit_byte t rest at end some here f =
+    let a : get_or t at 0 ≡ get_or rest 0 0 = ap (λ i. get_or t i 0) (sym (add-zero at)) ∙ sym (get_or-drop at t 0 0) ∙ ap (λ l. get_or l 0 0) (sym here) in
+    let b : get_or t (at + 1) 0 ≡ end = sym (get_or-drop at t 1 0) ∙ ap (λ l. get_or l 1 0) (sym here) ∙ f in
     let l = present t (at + 1) (omega arith) in
     record {
       law = tt;
       within = omega arith;
-      is = unpeel t at (at + 1) b _ refl (omega arith) e (unpeel t (at + 1) (at + 2) end _ (omega arith) l f refl);
-      only = λ c rest h d.
-          let p = peel t at (at + 1) c (end ∷ rest) refl d in
-          let q = peel t (at + 1) (at + 2) end rest (omega arith) p.1 in
-          (sym p.0 ∙ e, sym q.1);
+      is = unpeel t at (at + 1) (get_or rest 0 0) _ refl (omega arith) a (unpeel t (at + 1) (at + 2) end _ (omega arith) l b refl);
+      only = λ c more h d.
+          let p = peel t at (at + 1) c (end ∷ more) refl d in
+          let q = peel t (at + 1) (at + 2) end more (omega arith) p.1 in
+          (sym p.0 ∙ a, sym q.1);
     }
 
-pub miss_byte : (t : List ℕ) (at end : ℕ) → (get_or t (at + 1) 0 ≡ end → ⊥) → Miss one Any end t at
-miss_byte t at end other = record {
-  never = λ b rest h d.
-      let p = peel t at (at + 1) b (end ∷ rest) refl d in
-      other (peel t (at + 1) (at + 2) end rest (omega arith) p.1).0;
-}
+-- a field stands in a text, whichever name the text goes by
+module _ {A : Type 0} {w : A → List ℕ} {L : A → Type 0} {end : ℕ} {s t : Bor (List ℕ)} {at : ℕ} (e : s ≡ t) where
+  pub hit_in : {a : A} {to : ℕ} → Hit w L end s.now at a to → Hit w L end t.now at a to
+  hit_in {a} {to} h = subst (λ (x : Bor (List ℕ)). Hit w L end x.now at a to) e h
+
+  pub miss_in : Miss w L end s.now at → Miss w L end t.now at
+  miss_in h = subst (λ (x : Bor (List ℕ)). Miss w L end x.now at) e h
 
 -- a field of A's text is one of B's, where f names a B for each A and no B twice
 module _ {A B : Type 0} (v : B → List ℕ) (M : B → Type 0) (w : A → List ℕ) (L : A → Type 0) (f : A → B) (texts : (a : A) → w a ≡ v (f a)) (laws : (a : A) → L a → M (f a)) where
@@ -39,9 +44,6 @@ module _ {A B : Type 0} (v : B → List ℕ) (M : B → Type 0) (w : A → List 
 
   pub named_miss : {end : ℕ} {t : List ℕ} {at : ℕ} → Miss v M end t at → Miss w L end t at
   named_miss {end} miss = record { never = λ a rest l d. miss.never (f a) rest (laws a l) (d ∙ ap (λ x. x ++ end ∷ rest) (texts a)) }
-
-  pub named_not : {end : ℕ} {t : List ℕ} {at : ℕ} {b : B} {to : ℕ} → ((a : A) → b ≡ f a → ⊥) → Hit v M end t at b to → Miss w L end t at
-  named_not {end} other hit = record { never = λ a rest l d. other a (sym (hit.only (f a) rest (laws a l) (d ∙ ap (λ x. x ++ end ∷ rest) (texts a))).0) }
 
 -- a field, a comma and a field
 module _ {A B : Type 0} (w : A → List ℕ) (L : A → Type 0) (v : B → List ℕ) (M : B → Type 0) where

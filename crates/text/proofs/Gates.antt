@@ -1,12 +1,11 @@
 -- The fields of gates: by their first byte they are CX or a one-qubit gate.
-use Rattle.std.proofs.Common.{◌≡◌, ℕ, ◌+◌, cond, eqb, List, ◌∷◌, ◌++◌, get_or, drop, sym, refl, ap, ◌∙◌, arith}
+use Rattle.std.proofs.Common.{◌≡◌, ℕ, ◌<◌, cond, eqb, List, ◌∷◌, ◌++◌, length, get_or, drop, sym, refl, ap, ◌∙◌, arith}
 use Rattle.pauli.specs.declared.gate.OneQubit.{OneQubit}
 use Rattle.pauli.specs.declared.gate.OneQubit.TheVariants.{H, S, X, Y, Z}
 use Rattle.pauli.specs.declared.gate.Gate.{Gate}
 use Rattle.pauli.specs.declared.gate.Gate.TheVariants.{One, Cx}
 use Rattle.text.specs.Reading.{Hit, Miss}
-use Rattle.text.specs.Texts.{Any, one, gate_byte, turn_text, Turn, pair_text, Pair, gate_text, Gated}
-use Rattle.text.proofs.Places.{peel, unpeel, present}
+use Rattle.text.specs.Texts.{gate_byte, turn_text, Turn, gate_text, Gated}
 
 -- a name names one gate
 unfoldable named : ℕ → OneQubit
@@ -31,51 +30,26 @@ not_c X e = omega arith
 not_c Y e = omega arith
 not_c Z e = omega arith
 
-module _ (t : List ℕ) (at end : ℕ) where
-  -- where the first byte is another, the gate is a one-qubit gate
-  pub turn_hit : (g : OneQubit) (q to : ℕ) → (get_or t at 0 ≡ 67 → ⊥) → Hit turn_text Turn end t at (g, q) to → Hit gate_text Gated end t at (One g q) to
-  turn_hit g q to other hit = record { law = hit.law; within = hit.within; is = hit.is; only = go }
+abbrev pub NotCx : List ℕ → Type 0
+NotCx rest = 2 < length rest → get_or rest 0 0 ≡ 67 → get_or rest 1 0 ≡ 88 → get_or rest 2 0 ≡ 44 → ⊥
+
+-- where `rest`, which stands from the place on, does not begin with `CX,`, a gate's field is a one-qubit gate's
+module _ (t rest : List ℕ) (at end : ℕ) (here : rest ≡ drop at t) (other : NotCx rest) where
+  no_cx : (c x : ℕ) (more : List ℕ) → drop at t ≡ gate_text (Cx c x) ++ end ∷ more → ⊥
+  no_cx c x more d =
+      let e = here ∙ d in
+      other (omega (arith, ap length e)) (ap (λ l. get_or l 0 0) e) (ap (λ l. get_or l 1 0) e) (ap (λ l. get_or l 2 0) e)
+
+  pub turn_hit : {p : OneQubit × ℕ} {to : ℕ} → Hit turn_text Turn end t at p to → Hit gate_text Gated end t at (One p.0 p.1) to
+  turn_hit {p} {to} hit = record { law = hit.law; within = hit.within; is = hit.is; only = go }
     where
-      go : (b : Gate) (rest : List ℕ) → Gated b → drop at t ≡ gate_text b ++ end ∷ rest → (b ≡ One g q) × (rest ≡ drop to t)
-      go (One h r) rest l d = let o = hit.only (h, r) rest l d in (ap (λ p. One p.0 p.1) o.0, o.1)
-      go (Cx c x) rest l d = absurd (other (peel t at (at + 1) 67 _ refl d).0)
+      go : (b : Gate) (more : List ℕ) → Gated b → drop at t ≡ gate_text b ++ end ∷ more → (b ≡ One p.0 p.1) × (more ≡ drop to t)
+      go (One h r) more l d = let o = hit.only (h, r) more l d in (ap (λ q. One q.0 q.1) o.0, o.1)
+      go (Cx c x) more l d = absurd (no_cx c x more d)
 
-  pub turn_miss : (get_or t at 0 ≡ 67 → ⊥) → Miss turn_text Turn end t at → Miss gate_text Gated end t at
-  turn_miss other miss = record { never = go }
+  pub turn_miss : Miss turn_text Turn end t at → Miss gate_text Gated end t at
+  turn_miss miss = record { never = go }
     where
-      go : (b : Gate) (rest : List ℕ) → Gated b → drop at t ≡ gate_text b ++ end ∷ rest → ⊥
-      go (One h r) rest l d = miss.never (h, r) rest l d
-      go (Cx c x) rest l d = other (peel t at (at + 1) 67 _ refl d).0
-
-  -- where it is C, the gate is CX, and what follows says so
-  pub cx_seen : (b : Gate) (rest : List ℕ) → get_or t at 0 ≡ 67 → Gated b → drop at t ≡ gate_text b ++ end ∷ rest → (p : ℕ × ℕ) × (b ≡ Cx p.0 p.1) × Pair p × (drop (at + 1) t ≡ 88 ∷ 44 ∷ (pair_text p ++ end ∷ rest))
-  cx_seen (One g q) rest c l d = absurd (not_c g (sym (peel t at (at + 1) (gate_byte g) _ refl d).0 ∙ c))
-  cx_seen (Cx x y) rest c l d = ((x, y), refl, l, (peel t at (at + 1) 67 _ refl d).1)
-
-  pub cx_name : get_or t at 0 ≡ 67 → Miss one Any 44 t (at + 1) → Miss gate_text Gated end t at
-  cx_name c miss = record { never = λ b rest l d. let s = cx_seen b rest c l d in miss.never 88 (pair_text s.0 ++ end ∷ rest) tt s.3 }
-
-  pub cx_other : (x mid : ℕ) → get_or t at 0 ≡ 67 → (x ≡ 88 → ⊥) → Hit one Any 44 t (at + 1) x mid → Miss gate_text Gated end t at
-  cx_other x mid c other hit = record {
-    never = λ b rest l d.
-        let s = cx_seen b rest c l d in other (sym (hit.only 88 (pair_text s.0 ++ end ∷ rest) tt s.3).0);
-  }
-
-  pub cx_miss : (x mid : ℕ) → get_or t at 0 ≡ 67 → Hit one Any 44 t (at + 1) x mid → Miss pair_text Pair end t mid → Miss gate_text Gated end t at
-  cx_miss x mid c hit miss = record {
-    never = λ b rest l d.
-        let s = cx_seen b rest c l d in miss.never s.0 rest s.2 (sym (hit.only 88 (pair_text s.0 ++ end ∷ rest) tt s.3).1);
-  }
-
-  pub cx_hit : (x mid p q to : ℕ) → get_or t at 0 ≡ 67 → x ≡ 88 → Hit one Any 44 t (at + 1) x mid → Hit pair_text Pair end t mid (p, q) to → Hit gate_text Gated end t at (Cx p q) to
-  cx_hit x mid p q to c e name pair =
-      let l = present t at (omega arith) in
-      record {
-        law = pair.law;
-        within = pair.within;
-        is = unpeel t at (at + 1) 67 _ refl l c (name.is ∙ (λ i. e i ∷ 44 ∷ pair.is i));
-        only = λ b rest l d.
-            let s = cx_seen b rest c l d in
-            let o = pair.only s.0 rest s.2 (sym (name.only 88 (pair_text s.0 ++ end ∷ rest) tt s.3).1) in
-            (s.1 ∙ ap (λ z. Cx z.0 z.1) o.0, o.1);
-      }
+      go : (b : Gate) (more : List ℕ) → Gated b → drop at t ≡ gate_text b ++ end ∷ more → ⊥
+      go (One h r) more l d = miss.never (h, r) more l d
+      go (Cx c x) more l d = no_cx c x more d

@@ -1,4 +1,5 @@
 pub mod Places
+pub mod Cuts
 pub mod Fields
 pub mod Numbers
 pub mod Gates

@@ -1,10 +1,11 @@
 -- The digits of a number below 1000, and the fields that they are.
-use Rattle.std.proofs.Common.{◌≡◌, ℕ, ◌+◌, ◌*◌, ◌/◌, ◌%◌, ◌^◌, ◌<◌, ◌≤◌, List, [], ◌∷◌, ◌++◌, length, get_or, drop, sym, refl, ap, ◌∙◌, ⊎_elim, arith}
+use Rattle.std.proofs.Common.{◌≡◌, ℕ, zero, suc, ◌+◌, ◌*◌, ◌/◌, ◌%◌, ◌^◌, ◌<◌, ◌≤◌, List, [], ◌∷◌, ◌++◌, length, get_or, drop, sym, refl, ap, ◌∙◌, subst, ⊎_elim, arith}
 use Rattle.std.proofs.lemmas.Bool.{cases_lt, lt-ltb, le-ltb}
-use Rattle.std.proofs.lemmas.Fmt.{decimal_digit, decimal_step, length-decimal-le}
+use Rattle.std.proofs.lemmas.Fmt.{decimal_digit, decimal_step, decimal_injective, length-decimal-le}
 use Rattle.text.specs.Reading.{Hit, Miss}
-use Rattle.text.specs.Texts.{num, Short, digits}
-use Rattle.text.proofs.Places.{peel, unpeel, present}
+use Rattle.text.specs.Texts.{num, Short, digits, same, Without}
+use Rattle.text.proofs.Fields.{named_miss}
+use Rattle.text.proofs.Places.{peel}
 
 -- one digit, and one more
 pub num_digit : (n : ℕ) → n < 10 → num n ≡ (48 + n) ∷ []
@@ -100,52 +101,78 @@ seen t at end n rest h e = go (shape n h)
         let u = peel t (at + 3) (at + 4) end rest (omega arith) r.1 in
         three a b c h1 h2 h3 h4 v p.0 q.0 r.0 u.0 u.1
 
--- no number's field stands at a place
-pub no_number : (t : List ℕ) (at end : ℕ) → ((n : ℕ) (rest : List ℕ) → At t at end n rest → ⊥) → Miss num Short end t at
-no_number t at end never = record { never = λ n rest h e. never n rest (seen t at end n rest h e) }
+-- no two numbers are written alike
+pub num_same : (m n : ℕ) → Short m → Short n → num m ≡ num n → m ≡ n
+unfolding num
+num_same m n h k e = decimal_injective m n (omega arith) (omega arith) e
 
-module _ (t : List ℕ) (at end : ℕ) (room : 0 < end) (stop : end < 48) where
-  pub hit_one : (a : ℕ) → a < 10 → get_or t at 0 ≡ 48 + a → get_or t (at + 1) 0 ≡ end → Hit num Short end t at a (at + 2)
-  hit_one a h e f =
-      let l = present t (at + 1) (omega arith) in
-      record {
-        law = omega arith;
-        within = omega arith;
-        is = unpeel t at (at + 1) (48 + a) _ refl (omega arith) e (unpeel t (at + 1) (at + 2) end _ (omega arith) l f refl) ∙ ap (λ l. l ++ end ∷ drop (at + 2) t) (sym (num_digit a h));
-        only = λ n rest s d. go n rest (seen t at end n rest s d);
-      }
-    where
-      go : (n : ℕ) (rest : List ℕ) → At t at end n rest → (n ≡ a) × (rest ≡ drop (at + 2) t)
-      go n rest (one l p q r) = (omega arith, sym r)
-      go n rest (two x y h1 h2 h3 v p q r u) = absurd (omega arith)
-      go n rest (three x y z h1 h2 h3 h4 v p q r u k) = absurd (omega arith)
+-- how long a number's text is, and which bytes it has
+pub record Numeral (xs : List ℕ) : Type 0 where
+  pub some : 0 < length xs
+  pub few : length xs ≤ 3
+  pub first : (48 ≤ get_or xs 0 0) × (get_or xs 0 0 ≤ 57)
+  pub lead : 1 < length xs → 48 < get_or xs 0 0
+  pub second : 1 < length xs → (48 ≤ get_or xs 1 0) × (get_or xs 1 0 ≤ 57)
+  pub third : 2 < length xs → (48 ≤ get_or xs 2 0) × (get_or xs 2 0 ≤ 57)
 
-  pub hit_two : (a b : ℕ) → 0 < a → a < 10 → b < 10 → get_or t at 0 ≡ 48 + a → get_or t (at + 1) 0 ≡ 48 + b → get_or t (at + 2) 0 ≡ end → Hit num Short end t at (10 * a + b) (at + 3)
-  hit_two a b i j k e f g =
-      let l = present t (at + 2) (omega arith) in
-      record {
-        law = omega arith;
-        within = omega arith;
-        is = unpeel t at (at + 1) (48 + a) _ refl (omega arith) e (unpeel t (at + 1) (at + 2) (48 + b) _ (omega arith) (omega arith) f (unpeel t (at + 2) (at + 3) end _ (omega arith) l g refl)) ∙ ap (λ l. l ++ end ∷ drop (at + 3) t) (sym (num_two a b i j k));
-        only = λ n rest s d. go n rest (seen t at end n rest s d);
-      }
-    where
-      go : (n : ℕ) (rest : List ℕ) → At t at end n rest → (n ≡ 10 * a + b) × (rest ≡ drop (at + 3) t)
-      go n rest (one l p q r) = absurd (omega arith)
-      go n rest (two x y h1 h2 h3 v p q r u) = (omega arith, sym u)
-      go n rest (three x y z h1 h2 h3 h4 v p q r u k) = absurd (omega arith)
+pub numeral : (xs : List ℕ) (n : ℕ) → n < 1000 → xs ≡ num n → Numeral xs
+numeral xs n h e = go (shape n h)
+  where
+    shown : (ys : List ℕ) → Numeral ys → num n ≡ ys → Numeral xs
+    shown ys d s = subst Numeral (sym (e ∙ s)) d
 
-  pub hit_three : (a b c : ℕ) → 0 < a → a < 10 → b < 10 → c < 10 → get_or t at 0 ≡ 48 + a → get_or t (at + 1) 0 ≡ 48 + b → get_or t (at + 2) 0 ≡ 48 + c → get_or t (at + 3) 0 ≡ end → Hit num Short end t at (100 * a + 10 * b + c) (at + 4)
-  hit_three a b c i j k m e f g h =
-      let l = present t (at + 3) (omega arith) in
-      record {
-        law = omega arith;
-        within = omega arith;
-        is = unpeel t at (at + 1) (48 + a) _ refl (omega arith) e (unpeel t (at + 1) (at + 2) (48 + b) _ (omega arith) (omega arith) f (unpeel t (at + 2) (at + 3) (48 + c) _ (omega arith) (omega arith) g (unpeel t (at + 3) (at + 4) end _ (omega arith) l h refl))) ∙ ap (λ l. l ++ end ∷ drop (at + 4) t) (sym (num_three a b c i j k m));
-        only = λ n rest s d. go n rest (seen t at end n rest s d);
-      }
+    go : Shape n → Numeral xs
+    go (one l s) = shown _ (record { some = omega arith; few = omega arith; first = (omega arith, omega arith); lead = λ z. omega arith; second = λ z. absurd (omega arith); third = λ z. absurd (omega arith) }) s
+    go (two a b p q r v s) = shown _ (record { some = omega arith; few = omega arith; first = (omega arith, omega arith); lead = λ z. omega arith; second = λ z. (omega arith, omega arith); third = λ z. absurd (omega arith) }) s
+    go (three a b c p q r k v s) = shown _ (record { some = omega arith; few = omega arith; first = (omega arith, omega arith); lead = λ z. omega arith; second = λ z. (omega arith, omega arith); third = λ z. (omega arith, omega arith) }) s
+
+-- other bytes are no number's
+pub not_spelled : (xs : List ℕ) → (Numeral xs → ⊥) → (n : ℕ) → Short n → xs ≡ num n → ⊥
+not_spelled xs other n h e = other (numeral xs n h e)
+
+-- one, two and three digits are
+pub spelled_one : (xs : List ℕ) (a : ℕ) → length xs ≡ 1 → a < 10 → get_or xs 0 0 ≡ 48 + a → xs ≡ num a
+spelled_one (x ∷ []) a l h e = ap (λ b. b ∷ []) e ∙ sym (num_digit a h)
+spelled_one [] a l h e = absurd (omega arith)
+spelled_one (x ∷ y ∷ xs) a l h e = absurd (omega arith)
+
+pub spelled_two : (xs : List ℕ) (a b : ℕ) → length xs ≡ 2 → 0 < a → a < 10 → b < 10 → get_or xs 0 0 ≡ 48 + a → get_or xs 1 0 ≡ 48 + b → xs ≡ num (10 * a + b)
+spelled_two (x ∷ y ∷ []) a b l p q r e f = (λ i. e i ∷ f i ∷ []) ∙ sym (num_two a b p q r)
+spelled_two [] a b l p q r e f = absurd (omega arith)
+spelled_two (x ∷ []) a b l p q r e f = absurd (omega arith)
+spelled_two (x ∷ y ∷ z ∷ xs) a b l p q r e f = absurd (omega arith)
+
+pub spelled_three : (xs : List ℕ) (a b c : ℕ) → length xs ≡ 3 → 0 < a → a < 10 → b < 10 → c < 10 → get_or xs 0 0 ≡ 48 + a → get_or xs 1 0 ≡ 48 + b → get_or xs 2 0 ≡ 48 + c → xs ≡ num (100 * a + 10 * b + c)
+spelled_three (x ∷ y ∷ z ∷ []) a b c l p q r k e f g = (λ i. e i ∷ f i ∷ g i ∷ []) ∙ sym (num_three a b c p q r k)
+spelled_three [] a b c l p q r k e f g = absurd (omega arith)
+spelled_three (x ∷ []) a b c l p q r k e f g = absurd (omega arith)
+spelled_three (x ∷ y ∷ []) a b c l p q r k e f g = absurd (omega arith)
+spelled_three (x ∷ y ∷ z ∷ w ∷ xs) a b c l p q r k e f g = absurd (omega arith)
+
+pub ruleset spells = (not_spelled, spelled_one, spelled_two, spelled_three)
+
+-- a number's field is all that stands before its end
+module _ (end : ℕ) (low : end < 48) where
+  pub num_without : (n : ℕ) → Short n → Without end (num n)
+  num_without n h = let d = numeral (num n) n h refl in record { each = λ i l e. go i d l e }
     where
-      go : (n : ℕ) (rest : List ℕ) → At t at end n rest → (n ≡ 100 * a + 10 * b + c) × (rest ≡ drop (at + 4) t)
-      go n rest (one l p q r) = absurd (omega arith)
-      go n rest (two x y h1 h2 h3 v p q r u) = absurd (omega arith)
-      go n rest (three x y z h1 h2 h3 h4 v p q r u k) = (omega arith, sym k)
+      go : (i : ℕ) → Numeral (num n) → i < length (num n) → get_or (num n) i 0 ≡ end → ⊥
+      go zero d l e = omega (arith, d.first)
+      go (suc zero) d l e = omega (arith, d.second l)
+      go (suc (suc zero)) d l e = omega (arith, d.third l)
+      go (suc (suc (suc i))) d l e = omega (arith, d.few)
+
+  module _ {t : List ℕ} {at : ℕ} where
+    pub number_hit : {l : List ℕ} {to : ℕ} (n : ℕ) → Short n → l ≡ num n → Hit same (Without end) end t at l to → Hit num Short end t at n to
+    number_hit {l} {to} n h e hit = record {
+      law = h;
+      within = hit.within;
+      is = hit.is ∙ ap (λ x. x ++ end ∷ drop to t) e;
+      only = λ m rest k d. let o = hit.only (num m) rest (num_without m k) d in (num_same m n k h (o.0 ∙ e), o.1);
+    }
+
+    pub number_miss : Miss same (Without end) end t at → Miss num Short end t at
+    number_miss = named_miss same (Without end) num Short num (λ n. refl) num_without
+
+    pub number_not : {l : List ℕ} {to : ℕ} → ((n : ℕ) → Short n → l ≡ num n → ⊥) → Hit same (Without end) end t at l to → Miss num Short end t at
+    number_not other hit = record { never = λ n rest h d. other n h (sym (hit.only (num n) rest (num_without n h) d).0) }

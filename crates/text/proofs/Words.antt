@@ -1,34 +1,19 @@
 -- Letters and coins, one by one, and the lengths of what is written.
-use Rattle.std.proofs.Common.{◌≡◌, ℕ, zero, suc, ◌+◌, ◌-◌, ◌/◌, ◌%◌, ◌<◌, cond, [], ◌∷◌, length, refl, ap, arith}
-use Rattle.std.proofs.lemmas.Bool.{ne_eqb}
-use Rattle.pauli.specs.Bits.{odd}
-use Rattle.pauli.specs.Letters.{letter_of, code_of}
+use Rattle.std.proofs.Common.{◌≡◌, ℕ, zero, suc, ◌+◌, ◌/◌, ◌%◌, ◌<◌, cond, [], ◌∷◌, length, refl, ap, arith, Bool, true, false, get_or, sym, ◌∙◌}
+use Rattle.std.proofs.lemmas.Bool.{ne_eqb, eqb-true, eqb-false}
+use mir.Val.{bool_byte}
+use Rattle.pauli.proofs.Texts.{text_length}
+use Rattle.pauli.proofs.Words.{bit_half, bit_low}
+use Rattle.pauli.specs.Bits.{odd, bit_of}
 use Rattle.pauli.specs.Labels.{letters}
 use Rattle.text.specs.Texts.{coins, coin_text}
 
 pub length_letters : (n x z : ℕ) → length (letters n x z) ≡ n
-length_letters zero x z = refl
-length_letters (suc n) x z = ap suc (length_letters n (x / 2) (z / 2))
-
-pub letters_none : (n x z : ℕ) → n ≡ 0 → letters n x z ≡ []
-letters_none zero x z e = refl
-letters_none (suc n) x z e = absurd (omega arith)
-
-pub letters_step : (n x z : ℕ) → 0 < n → letters n x z ≡ code_of (letter_of (odd x) (odd z)) ∷ letters (n - 1) (x / 2) (z / 2)
-letters_step zero x z h = absurd (omega arith)
-letters_step (suc n) x z h = let d : n ≡ suc n - 1 = omega arith in ap (λ k. code_of (letter_of (odd x) (odd z)) ∷ letters k (x / 2) (z / 2)) d
+length_letters n x z = text_length n (record { x = x; z = z })
 
 pub length_coins : (n c : ℕ) → length (coins n c) ≡ n
 length_coins zero c = refl
 length_coins (suc n) c = ap suc (length_coins n (c / 2))
-
-pub coins_none : (n c : ℕ) → n ≡ 0 → coins n c ≡ []
-coins_none zero c e = refl
-coins_none (suc n) c e = absurd (omega arith)
-
-pub coins_step : (n c : ℕ) → 0 < n → coins n c ≡ (48 + c % 2) ∷ coins (n - 1) (c / 2)
-coins_step zero c h = absurd (omega arith)
-coins_step (suc n) c h = let d : n ≡ suc n - 1 = omega arith in ap (λ k. (48 + c % 2) ∷ coins k (c / 2)) d
 
 -- coins, or `-`
 pub coin_some : (n : ℕ) → 0 < n → coin_text n ≡ coins n
@@ -39,3 +24,13 @@ pub coin_none : (n c : ℕ) → n ≡ 0 → coin_text n c ≡ 45 ∷ []
 unfolding coin_text
 coin_none zero c z = refl
 coin_none (suc n) c z = absurd (omega arith)
+
+-- the coin at a place
+pub coin_at : (n c i : ℕ) → i < n → get_or (coins n c) i 0 ≡ 48 + bool_byte (bit_of c i)
+coin_at zero c i h = absurd (omega arith)
+coin_at (suc n) c zero h = ap (λ d. 48 + d) (low c (odd c) refl ∙ ap bool_byte (sym (bit_low c)))
+  where
+    low : (c : ℕ) (b : Bool) → odd c ≡ b → c % 2 ≡ bool_byte b
+    low c true e = eqb-true _ _ e
+    low c false e = let n = eqb-false (c % 2) 1 e in omega arith
+coin_at (suc n) c (suc i) h = coin_at n (c / 2) i (omega arith) ∙ ap (λ b. 48 + bool_byte b) (bit_half c i)

@@ -1,6 +1,6 @@
 pub mod Ends
 pub mod Texts
-pub mod Runs
+pub mod Stops
 pub mod Lines
 pub mod Reading
 pub mod Writing

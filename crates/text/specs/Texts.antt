@@ -3,10 +3,11 @@ use Rattle.std.specs.Prelude.{◌≡◌, ℕ, zero, suc, ◌+◌, ◌/◌, ◌%�
 use Rattle.pauli.specs.declared.fault.Fault.{Fault}
 use Rattle.pauli.specs.declared.fault.Fault.TheVariants.{BadForm}
 use Rattle.pauli.specs.declared.gate.OneQubit.{OneQubit}
-use Rattle.pauli.specs.declared.gate.OneQubit.TheVariants.{H, S, X, Y, Z}
 use Rattle.pauli.specs.declared.gate.Gate.{Gate}
 use Rattle.pauli.specs.declared.gate.Gate.TheVariants.{One, Cx}
 use Rattle.pauli.specs.Letters.{is_letter}
+pub use Rattle.pauli.specs.Gates.{gate_byte}
+pub use Rattle.pauli.specs.Names.{Named}
 
 -- every value
 abbrev pub Any : {A : Type 0} → A → Type 0
@@ -39,18 +40,10 @@ sign_byte true = 45
 abbrev pub sign_text : Bool → List ℕ
 sign_text s = one (sign_byte s)
 
--- the name of a one-qubit gate
-abbrev pub gate_byte : OneQubit → ℕ
-gate_byte H = 72
-gate_byte S = 83
-gate_byte X = 88
-gate_byte Y = 89
-gate_byte Z = 90
-
--- one byte that names a value
-abbrev pub Named : {A : Type 0} (w : A → ℕ) (b : ℕ) → Result A Fault → Type 0
-Named {A} w b (Ok a) = b ≡ w a
-Named {A} w b (Err f) = (f ≡ BadForm) × ((a : A) → b ≢ w a)
+-- a whole text that is a value's
+abbrev pub Spelled : {A : Type 0} (w : A → List ℕ) (L : A → Type 0) (t : List ℕ) → Result A Fault → Type 0
+Spelled w L t (Ok a) = L a × (t ≡ w a)
+Spelled {A} w L t (Err f) = (f ≡ BadForm) × ((a : A) → L a → t ≢ w a)
 
 -- a one-qubit gate and its qubit, as `H,1`
 abbrev pub turn_text : OneQubit × ℕ → List ℕ
@@ -103,3 +96,7 @@ coins (suc n) c = (48 + c % 2) ∷ coins n (c / 2)
 -- no coins are `-`
 unfoldable pub coin_text : ℕ → ℕ → List ℕ
 coin_text n c = cond (n == 0) (45 ∷ []) (coins n c)
+
+-- any bytes, written as they are, but not that one
+pub record Without (end : ℕ) (l : List ℕ) : Type 0 where
+  pub each : (i : ℕ) → i < length l → slice_index l i ≢ end

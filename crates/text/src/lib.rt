@@ -2,7 +2,9 @@
 #![tactic(auto)]
 
 pub mod end;
+pub mod limits;
 pub mod read;
+pub mod stop;
 #[cfg(test)]
 mod tests;
 pub mod write;

@@ -1,65 +1,66 @@
 // The fields of the lines in use, and what is refused.
 use crate::end::End;
+use crate::read::Fields;
+use crate::write;
 use crate::write::Field;
-use crate::{read, write};
 use pauli::fault::Fault;
 use pauli::gate::{Gate, OneQubit};
 use pauli::label::Label;
 
+fn at(text: &[u8], at: usize) -> Fields<'_> {
+    Fields { text, at }
+}
+
 #[test]
 fn numbers(rt: HostRuntime) {
-    assert_eq!(rt; read::number(b"0,", 0, End::Comma), Ok((0, 2)));
-    assert_eq!(rt; read::number(b"7,512\n", 2, End::LineFeed), Ok((512, 6)));
-    assert_eq!(rt; read::number(b"07,", 0, End::Comma), Err(Fault::BadForm));
-    assert_eq!(rt; read::number(b"1000,", 0, End::Comma), Err(Fault::BadForm));
-    assert_eq!(rt; read::number(b"1", 0, End::Comma), Err(Fault::BadForm));
+    let mut fields = at(b"0,", 0);
+    assert_eq!(rt; fields.number(End::Comma), Ok(0));
+    assert_eq!(rt; fields.at, 2);
+    let mut fields = at(b"7,512\n", 2);
+    assert_eq!(rt; fields.number(End::LineFeed), Ok(512));
+    assert_eq!(rt; fields.at, 6);
+    assert_eq!(rt; at(b"07,", 0).number(End::Comma), Err(Fault::BadForm));
+    assert_eq!(rt; at(b"1000,", 0).number(End::Comma), Err(Fault::BadForm));
+    assert_eq!(rt; at(b"1", 0).number(End::Comma), Err(Fault::BadForm));
     assert_eq!(rt;
-        read::number(b"1,", usize::MAX, End::Comma),
+        at(b"1,", usize::MAX).number(End::Comma),
         Err(Fault::BadForm)
     );
 }
 
 #[test]
 fn gates(rt: HostRuntime) {
+    let mut fields = at(b"H,1\n", 0);
+    let h = Gate::One {
+        gate: OneQubit::H,
+        qubit: 1,
+    };
+    assert_eq!(rt; fields.gate(End::LineFeed), Ok(h));
+    assert_eq!(rt; fields.at, 4);
+    let mut fields = at(b"CX,1,2\n", 0);
+    let cx = Gate::Cx {
+        control: 1,
+        target: 2,
+    };
+    assert_eq!(rt; fields.gate(End::LineFeed), Ok(cx));
+    assert_eq!(rt; fields.at, 7);
     assert_eq!(rt;
-        read::gate(b"H,1\n", 0, End::LineFeed),
-        Ok((
-            Gate::One {
-                gate: OneQubit::H,
-                qubit: 1,
-            },
-            4,
-        ))
-    );
-    assert_eq!(rt;
-        read::gate(b"CX,1,2\n", 0, End::LineFeed),
-        Ok((
-            Gate::Cx {
-                control: 1,
-                target: 2,
-            },
-            7,
-        ))
-    );
-    assert_eq!(rt;
-        read::one_qubit(b"CX,1,2\n", 0, End::LineFeed),
+        at(b"CX,1,2\n", 0).one_qubit(End::LineFeed),
         Err(Fault::BadForm)
     );
-    assert_eq!(rt;
-        read::gate(b"CZ,1,2\n", 0, End::LineFeed),
-        Err(Fault::BadForm)
-    );
+    assert_eq!(rt; at(b"CZ,1,2\n", 0).gate(End::LineFeed), Err(Fault::BadForm));
 }
 
 #[test]
 fn letters(rt: HostRuntime) {
-    assert_eq!(rt;
-        read::letters(b"M,IXYZ,", 2, End::Comma),
-        Ok((b"IXYZ".as_slice(), 7))
-    );
-    assert_eq!(rt; read::letters(b",", 0, End::Comma), Err(Fault::BadForm));
-    assert_eq!(rt; read::letters(b"IXA,", 0, End::Comma), Err(Fault::BadForm));
-    assert_eq!(rt; read::sign(b"-,", 0, End::Comma), Ok((true, 2)));
+    let mut fields = at(b"M,IXYZ,", 2);
+    assert_eq!(rt; fields.letters(End::Comma), Ok(b"IXYZ".as_slice()));
+    assert_eq!(rt; fields.at, 7);
+    assert_eq!(rt; at(b",", 0).letters(End::Comma), Err(Fault::BadForm));
+    assert_eq!(rt; at(b"IXA,", 0).letters(End::Comma), Err(Fault::BadForm));
+    let mut fields = at(b"-,", 0);
+    assert_eq!(rt; fields.sign(End::Comma), Ok(true));
+    assert_eq!(rt; fields.at, 2);
 }
 
 #[test]

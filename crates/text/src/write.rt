@@ -1,15 +1,14 @@
 // The writer of lines: it looks whether the buffer has room for the whole line, and only then writes.
-ghost use Rattle.std.specs.Prelude.{◌≡◌, ℕ, ◌+◌, ◌<◌, ◌≤◌, true, [], ◌∷◌, ◌++◌, length, nat_le};
+ghost use Rattle.std.specs.Prelude.{◌≡◌, ℕ, ◌≤◌, [], ◌∷◌, length, nat_le};
 ghost use Rattle.pauli.specs.Labels.{label_text};
-ghost use Rattle.pauli.specs.Letters.{letter_of, code_of};
-ghost use Rattle.text.specs.Ends.{end_byte};
-ghost use Rattle.text.specs.Texts.{num, sign_byte, gate_byte, gate_text, coins, coin_text};
+ghost use Rattle.text.specs.Texts.{num, sign_byte, gate_text, coins};
 ghost use Rattle.text.specs.Lines.{field_text, line_of, Filled};
-ghost use Rattle.text.specs.Writing.{Wrote};
+ghost use Rattle.text.specs.Writing.{Room, Writes};
 
 use crate::end::End;
+use pauli::bits::bit;
 use pauli::fault::Fault;
-use pauli::gate::{Gate, OneQubit};
+use pauli::gate::Gate;
 use pauli::label::Label;
 
 // A field of a line.
@@ -27,7 +26,7 @@ pub enum Field {
     Coins { count: u32, word: u64 },
 }
 
-// How many digits a number has.
+// How many digits a number has. By recursion, as it is written: the first digits are known last.
 fn number_len(n: u32) -> usize
     ensures is { result ≡ length (num n) }
     ensures few { result ≤ 10 }
@@ -51,11 +50,11 @@ fn field_len(field: Field) -> usize
 {
     match field {
         Field::Number(n) => number_len(n),
-        Field::Mark(_) => 1,
-        Field::Sign(_) => 1,
+        Field::Mark(_) | Field::Sign(_) => 1,
         Field::Gate(gate) => gate_len(gate),
         Field::Letters { size, label: _ } => size as usize,
-        Field::Coins { count, word: _ } => if count == 0 { 1 } else { count as usize },
+        Field::Coins { count: 0, word: _ } => 1,
+        Field::Coins { count, word: _ } => count as usize,
     }
 }
 
@@ -64,8 +63,8 @@ fn fits(fields: &[Field], room: usize) -> bool
     ensures { result ≡ nat_le (length (line_of fields.now)) room }
 {
     let mut left = room;
-    for i in 0..fields.len() {
-        let len = field_len(fields[i]);
+    for field in fields {
+        let len = field_len(*field);
         if left <= len {
             return false;
         }
@@ -74,125 +73,97 @@ fn fits(fields: &[Field], room: usize) -> bool
     true
 }
 
-fn put(out: &mut [u8], at: usize, b: u8) -> usize
-    requires { at < length out.old }
-    ensures { Wrote out.old at (b ∷ []) out.new result }
-{
-    out[at] = b;
-    at + 1
-}
-
-fn put_number(out: &mut [u8], at: usize, n: u32) -> usize
-    requires { at + length (num n) ≤ length out.old }
-    ensures { Wrote out.old at (num n) out.new result }
-{
-    if n < 10 {
-        return put(out, at, b'0' + n as u8);
-    }
-    let to = put_number(out, at, n / 10);
-    put(out, to, b'0' + (n % 10) as u8)
-}
-
 fn sign_byte(sign: bool) -> u8
     ensures { result ≡ sign_byte sign }
 {
     if sign { b'-' } else { b'+' }
 }
 
-fn gate_byte(gate: OneQubit) -> u8
-    ensures { result ≡ gate_byte gate }
-{
-    match gate {
-        OneQubit::H => b'H',
-        OneQubit::S => b'S',
-        OneQubit::X => b'X',
-        OneQubit::Y => b'Y',
-        OneQubit::Z => b'Z',
+// A buffer, and the place in it where the next byte goes.
+#[derive(Drop)]
+struct Writer<'a> {
+    out: &'a mut [u8],
+    at: usize,
+}
+
+impl Writer<'_> {
+    fn put(&mut self, byte: u8)
+        requires { Room self.old 1 }
+        ensures { Writes self.old (byte ∷ []) self.new }
+    {
+        self.out[self.at] = byte;
+        self.at += 1;
     }
-}
 
-// A comma and a number.
-fn put_next(out: &mut [u8], at: usize, n: u32) -> usize
-    requires { at + 1 + length (num n) ≤ length out.old }
-    ensures { Wrote out.old at (44 ∷ num n) out.new result }
-{
-    let to = put(out, at, b',');
-    put_number(out, to, n)
-}
-
-fn put_gate(out: &mut [u8], at: usize, gate: Gate) -> usize
-    requires { at + length (gate_text gate) ≤ length out.old }
-    ensures { Wrote out.old at (gate_text gate) out.new result }
-{
-    match gate {
-        Gate::One { gate, qubit } => {
-            let to = put(out, at, gate_byte(gate));
-            put_next(out, to, qubit)
+    fn put_number(&mut self, n: u32)
+        requires { Room self.old (length (num n)) }
+        ensures { Writes self.old (num n) self.new }
+    {
+        if n >= 10 {
+            self.put_number(n / 10);
         }
-        Gate::Cx { control, target } => {
-            let to = put(out, at, b'C');
-            let to = put(out, to, b'X');
-            let to = put_next(out, to, control);
-            put_next(out, to, target)
-        }
+        self.put(b'0' + (n % 10) as u8);
     }
-}
 
-fn letter_byte(x: bool, z: bool) -> u8
-    ensures { result ≡ code_of (letter_of x z) }
-{
-    match (x, z) {
-        (false, false) => b'I',
-        (true, false) => b'X',
-        (true, true) => b'Y',
-        (false, true) => b'Z',
+    // A comma and a number.
+    fn put_next(&mut self, n: u32)
+        requires { Room self.old (length (44 ∷ num n)) }
+        ensures { Writes self.old (44 ∷ num n) self.new }
+    {
+        self.put(b',');
+        self.put_number(n);
     }
-}
 
-fn put_letters(out: &mut [u8], at: usize, size: u32, label: Label) -> usize
-    requires { at + size ≤ length out.old }
-    ensures { Wrote out.old at (label_text size label) out.new result }
-{
-    let mut x = label.x;
-    let mut z = label.z;
-    let mut to = at;
-    for i in 0..size {
-        to = put(out, to, letter_byte(x % 2 == 1, z % 2 == 1));
-        x /= 2;
-        z /= 2;
-    }
-    to
-}
-
-fn put_coins(out: &mut [u8], at: usize, count: u32, word: u64) -> usize
-    requires { at + count ≤ length out.old }
-    ensures { Wrote out.old at (coins count word) out.new result }
-{
-    let mut left = word;
-    let mut to = at;
-    for i in 0..count {
-        to = put(out, to, b'0' + (left % 2) as u8);
-        left /= 2;
-    }
-    to
-}
-
-fn put_field(out: &mut [u8], at: usize, field: Field) -> usize
-    requires { at + length (field_text field) ≤ length out.old }
-    ensures { Wrote out.old at (field_text field) out.new result }
-{
-    match field {
-        Field::Number(n) => put_number(out, at, n),
-        Field::Mark(b) => put(out, at, b),
-        Field::Sign(sign) => put(out, at, sign_byte(sign)),
-        Field::Gate(gate) => put_gate(out, at, gate),
-        Field::Letters { size, label } => put_letters(out, at, size, label),
-        Field::Coins { count, word } => {
-            if count == 0 {
-                put(out, at, b'-')
-            } else {
-                put_coins(out, at, count, word)
+    fn put_gate(&mut self, gate: Gate)
+        requires { Room self.old (length (gate_text gate)) }
+        ensures { Writes self.old (gate_text gate) self.new }
+    {
+        match gate {
+            Gate::One { gate, qubit } => {
+                self.put(gate.code());
+                self.put_next(qubit);
             }
+            Gate::Cx { control, target } => {
+                self.put(b'C');
+                self.put(b'X');
+                self.put_next(control);
+                self.put_next(target);
+            }
+        }
+    }
+
+    fn put_letters(&mut self, size: u32, label: Label)
+        requires { Room self.old size }
+        ensures { Writes self.old (label_text size label) self.new }
+    {
+        // `i` is the place of a letter in the label, and not one in a list.
+        for i in 0..size {
+            self.put(label.at(i).code());
+        }
+    }
+
+    fn put_coins(&mut self, count: u32, word: u64)
+        requires { Room self.old count }
+        ensures { Writes self.old (coins count word) self.new }
+    {
+        // `i` is the place of a coin in the word.
+        for i in 0..count {
+            self.put(b'0' + u8::from(bit(word, i)));
+        }
+    }
+
+    fn put_field(&mut self, field: Field)
+        requires { Room self.old (length (field_text field)) }
+        ensures { Writes self.old (field_text field) self.new }
+    {
+        match field {
+            Field::Number(n) => self.put_number(n),
+            Field::Mark(byte) => self.put(byte),
+            Field::Sign(sign) => self.put(sign_byte(sign)),
+            Field::Gate(gate) => self.put_gate(gate),
+            Field::Letters { size, label } => self.put_letters(size, label),
+            Field::Coins { count: 0, word: _ } => self.put(b'-'),
+            Field::Coins { count, word } => self.put_coins(count, word),
         }
     }
 }
@@ -205,15 +176,15 @@ pub fn line(fields: &[Field], out: &mut [u8]) -> Result<usize, Fault>
     if !fits(fields, out.len()) {
         return Err(Fault::ShortBuffer);
     }
-    let mut at = 0;
-    for i in 0..fields.len() {
+    let mut writer = Writer { out, at: 0 };
+    for (i, field) in fields.iter().enumerate() {
+        writer.put_field(*field);
         let end = if i + 1 < fields.len() {
             End::Comma
         } else {
             End::LineFeed
         };
-        let to = put_field(out, at, fields[i]);
-        at = put(out, to, end.byte());
+        writer.put(end.byte());
     }
-    Ok(at)
+    Ok(writer.at)
 }

@@ -17,7 +17,7 @@ use Rattle.tableau_laws.proofs.Opening.{opening_pattern}
 use Rattle.std.specs.Fmt.{digits}
 use Rattle.text.specs.Texts.{Letters, coin_text, num}
 use Rattle.circuit_text.specs.Lines.{measure, said_text}
-use Rattle.circuit.specs.declared.stop.Stop.{Stop}
+use Rattle.text.specs.declared.stop.Stop.{Stop}
 use Rattle.circuit.specs.Lines.{LineDone, end, next, Played}
 use Rattle.circuit_run.specs.declared.report.Finish.{Finish}
 use Rattle.circuit_run.specs.Output.{output}
@@ -48,8 +48,7 @@ module _ (R : Rows) (T : LawfulRows 2 R) (b : Label) (within : Within 2 b) (sign
     call = Ask.Measure b sign;
     answer = Outcome (outcome_of b sign word R);
     asked = (b, within, refl, refl);
-    accepted = tt;
-    step = (Ok (outcome_of b sign word R), refl, row_step 2 R T b within sign word coins left es drawn short free);
+    step = row_step 2 R T b within sign word coins left es drawn short free;
   }
 
   measured_line : (k : ℕ) (rest : List ℕ) (u : State) (r : Result Unit Stop) → Letters (label_text 2 b)

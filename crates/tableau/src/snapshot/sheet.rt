@@ -8,6 +8,7 @@ use pauli::fault::Fault;
 use pauli::label::Label;
 use phase::sheet::ValueSheet;
 
+// The same three lines as a tableau's: a snapshot is a type of its own, since it takes no gates and no measurements.
 impl ValueSheet for Snapshot {
     ghost sheet = { λ s. sheet_in s.rows };
 

@@ -1,18 +1,25 @@
 // Rows at an opening: the canonical ones, and given ones.
-ghost use Rattle.std.specs.Prelude.{◌≡◌, ℕ, ◌+◌, ◌<◌, ◌≤◌, false, length};
+ghost use Rattle.std.specs.Prelude.{◌≡◌, ℕ, ◌+◌, ◌-◌, ◌<◌, ◌≤◌, false, length};
 ghost use Rattle.pauli.specs.Faults.{Answers};
 ghost use Rattle.tableau_laws.specs.Opening.{opening, open_D, open_E, open_J};
 ghost use Rattle.tableau_laws.specs.Patterns.{given};
 ghost use Rattle.tableau_laws.specs.Rules.{SameRows};
 ghost use Rattle.tableau_rows.specs.Held.{rows_of};
 ghost use Rattle.tableau_rows.specs.Openings.{opening_fault, given_fault};
-ghost use Rattle.tableau_rows.specs.Parts.{row_in, label_in};
+ghost use Rattle.tableau_rows.specs.Parts.{row_in, pair_in};
 
-use crate::store::questions::ZERO;
-use crate::store::{RowStore, pattern};
+use crate::store::{Pair, RowStore, ZERO_LABEL, ZERO_ROW, pattern};
 use pauli::fault::Fault;
 use pauli::label::Label;
+use pauli::qubits::is_size;
 use pauli::row::Row;
+
+const NO_PAIRS: [Pair; 64] = [Pair {
+    destabilizer: ZERO_LABEL,
+    stabilizer: ZERO_ROW,
+}; 64];
+
+const NO_ROWS: [Row; 129] = [ZERO_ROW; 129];
 
 fn plus(x: u64, z: u64) -> Row
     ensures { result ≡ record { label = record { x = x; z = z }; sign = false } }
@@ -23,32 +30,31 @@ fn plus(x: u64, z: u64) -> Row
     }
 }
 
-// X at qubit j+1 for each destabilizer.
-fn open_destabilizers(count: usize, destabilizers: &mut [Label])
-    requires { (count ≤ 64) × (count ≤ length destabilizers.old) }
-    ensures { (i : ℕ) → i < count → label_in destabilizers.new i ≡ open_D i }
+// X at qubit j+1 for each destabilizer, and Z at qubit j+1 for each stabilizer.
+fn open_pairs() -> [Pair; 64]
+    ensures len { length result ≡ 64 }
+    ensures destabilizers { (i : ℕ) → i < 64 → (pair_in result i).destabilizer ≡ open_D i }
+    ensures stabilizers { (i : ℕ) → i < 64 → (pair_in result i).stabilizer ≡ open_E i }
 {
-    for j in 0..count {
-        destabilizers[j] = Label { x: 1 << j, z: 0 };
+    let mut pairs = NO_PAIRS;
+    for (j, pair) in pairs.iter_mut().enumerate() {
+        *pair = Pair {
+            destabilizer: Label { x: 1 << j, z: 0 },
+            stabilizer: plus(0, 1 << j),
+        };
     }
-}
-
-// Z at qubit j+1 for each stabilizer.
-fn open_stabilizers(count: usize, stabilizers: &mut [Row])
-    requires { (count ≤ 64) × (count ≤ length stabilizers.old) }
-    ensures { (i : ℕ) → i < count → row_in stabilizers.new i ≡ open_E i }
-{
-    for j in 0..count {
-        stabilizers[j] = plus(0, 1 << j);
-    }
+    pairs
 }
 
 // From qubit h+1 on: two rows with Y at the first i qubits and then Z, and X, for each i below w; and one with Y at all w.
-fn open_jordan_wigner(h: usize, w: usize, rows: &mut [Row])
-    requires { (h + w ≤ 64) × (w + w + 1 ≤ length rows.old) }
-    ensures { (i : ℕ) → i < w + w + 1 → row_in rows.new i ≡ open_J h w i }
+fn open_jordan_wigner(h: usize, w: usize) -> [Row; 129]
+    requires { h + w ≤ 64 }
+    ensures len { length result ≡ 129 }
+    ensures rows { (i : ℕ) → i < w + w + 1 → row_in result i ≡ open_J h w i }
 {
+    let mut rows = NO_ROWS;
     let mut ys = 0u64;
+    // By index, since it is also the qubit at which the Y end.
     for i in 0..w {
         let next = ys + (1 << (h + i));
         rows[i + i] = plus(ys, next);
@@ -56,25 +62,49 @@ fn open_jordan_wigner(h: usize, w: usize, rows: &mut [Row])
         ys = next;
     }
     rows[w + w] = plus(ys, ys);
+    rows
 }
 
-// The labels, and the rows, from a place on.
-fn copy_labels(from: &[Row], count: usize, to: &mut [Label])
-    requires { (count ≤ length from.now) × (count ≤ length to.old) }
-    ensures { (i : ℕ) → i < count → label_in to.new i ≡ (row_in from.now i).label }
+// Given rows by kind: the labels of the destabilizers, and the stabilizers.
+fn given_pairs(destabilizers: &[Row], stabilizers: &[Row]) -> [Pair; 64]
+    requires { (length destabilizers.now ≡ length stabilizers.now) × (length stabilizers.now ≤ 64) }
+    ensures len { length result ≡ 64 }
+    ensures destabilizers { (i : ℕ) → i < length destabilizers.now → (pair_in result i).destabilizer ≡ (row_in destabilizers.now i).label }
+    ensures stabilizers { (i : ℕ) → i < length destabilizers.now → (pair_in result i).stabilizer ≡ row_in stabilizers.now i }
 {
-    for i in 0..count {
-        to[i] = from[i].label;
+    let mut pairs = NO_PAIRS;
+    // By index, since after `pairs.iter_mut().zip(..)` nothing is known of what was written.
+    for (j, pair) in pairs[..destabilizers.len()].iter_mut().enumerate() {
+        *pair = Pair {
+            destabilizer: destabilizers[j].label,
+            stabilizer: stabilizers[j],
+        };
     }
+    pairs
 }
 
-fn copy_rows(from: &[Row], at: usize, count: usize, to: &mut [Row])
-    requires { (at + count ≤ length from.now) × ((at ≤ 129) × (count ≤ length to.old)) }
-    ensures { (i : ℕ) → i < count → row_in to.new i ≡ row_in from.now (at + i) }
+fn given_jordan_wigner(given: &[Row]) -> [Row; 129]
+    requires { length given.now ≤ 129 }
+    ensures len { length result ≡ 129 }
+    ensures rows { (i : ℕ) → i < length given.now → row_in result i ≡ row_in given.now i }
 {
-    for i in 0..count {
-        to[i] = from[at + i];
+    let mut rows = NO_ROWS;
+    rows[..given.len()].copy_from_slice(given);
+    rows
+}
+
+// How many pairs there are for n qubits and width w, or why there are none. (They stay two numbers: they come from outside, and a type of
+// both would have to refuse them first.)
+fn pairs_for(n: u32, w: u32) -> Result<usize, Fault>
+    ensures { Answers (opening_fault n w) (λ m. m ≡ n - w) result }
+{
+    if !is_size(n) {
+        return Err(Fault::BadSize);
     }
+    if n < w {
+        return Err(Fault::BadWidth);
+    }
+    Ok((n - w) as usize)
 }
 
 impl RowStore {
@@ -82,25 +112,12 @@ impl RowStore {
     pub fn open(n: u32, w: u32) -> Result<RowStore, Fault>
         ensures { Answers (opening_fault n w) (λ s. (s.size ≡ n) × SameRows (opening n w) (rows_of s)) result }
     {
-        if n < 1 || 64 < n {
-            return Err(Fault::BadSize);
-        }
-        if n < w {
-            return Err(Fault::BadWidth);
-        }
-        let pairs = (n - w) as usize;
-        let mut destabilizers = [Label { x: 0, z: 0 }; 64];
-        let mut stabilizers = [ZERO; 64];
-        let mut jordan_wigner = [ZERO; 129];
-        open_destabilizers(pairs, &mut destabilizers);
-        open_stabilizers(pairs, &mut stabilizers);
-        open_jordan_wigner(pairs, w as usize, &mut jordan_wigner);
+        let pairs = pairs_for(n, w)?;
         Ok(RowStore {
             size: n,
             width: w,
-            destabilizers,
-            stabilizers,
-            jordan_wigner,
+            pairs: open_pairs(),
+            jordan_wigner: open_jordan_wigner(pairs, w as usize),
         })
     }
 
@@ -108,35 +125,23 @@ impl RowStore {
     pub fn from_rows(n: u32, w: u32, rows: &[Row]) -> Result<RowStore, Fault>
         ensures { Answers (given_fault n w rows.now) (λ s. (s.size ≡ n) × SameRows (given n w (row_in rows.now)) (rows_of s)) result }
     {
-        if n < 1 || 64 < n {
-            return Err(Fault::BadSize);
-        }
-        if n < w {
-            return Err(Fault::BadWidth);
-        }
-        let pairs = (n - w) as usize;
-        let width = w as usize;
+        let pairs = pairs_for(n, w)?;
         if rows.len() != (n + n + 1) as usize {
             return Err(Fault::BadRows);
         }
         if !(pattern::places_ok(n, pairs, rows)
-            && pattern::sum_ok(pairs, width, rows)
-            && pattern::signs_ok(pairs, width, rows))
+            && pattern::sum_ok(pairs, w as usize, rows)
+            && pattern::signs_ok(pairs, w as usize, rows))
         {
             return Err(Fault::BadRows);
         }
-        let mut destabilizers = [Label { x: 0, z: 0 }; 64];
-        let mut stabilizers = [ZERO; 64];
-        let mut jordan_wigner = [ZERO; 129];
-        copy_labels(rows, pairs, &mut destabilizers);
-        copy_rows(rows, pairs, pairs, &mut stabilizers);
-        copy_rows(rows, pairs + pairs, width + width + 1, &mut jordan_wigner);
+        let (destabilizers, others) = rows.split_at(pairs);
+        let (stabilizers, jordan_wigner) = others.split_at(pairs);
         Ok(RowStore {
             size: n,
             width: w,
-            destabilizers,
-            stabilizers,
-            jordan_wigner,
+            pairs: given_pairs(destabilizers, stabilizers),
+            jordan_wigner: given_jordan_wigner(jordan_wigner),
         })
     }
 }

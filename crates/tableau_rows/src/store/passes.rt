@@ -1,98 +1,93 @@
-// Passes over the rows of one kind. Only the first `count` places are in use.
-ghost use Rattle.std.specs.Prelude.{◌≡◌, ℕ, ◌+◌, ◌<◌, ◌≤◌, length, slice_index_or};
+// Passes over pairs and rows, and what each makes of one.
+ghost use Rattle.std.specs.Prelude.{◌≡◌, ℕ, ◌+◌, ◌<◌, ◌≤◌, false, length, slice_index_or};
 ghost use Rattle.pauli.specs.Gates.{moved, carry};
-ghost use Rattle.pauli.specs.Labels.{zero_label};
-ghost use Rattle.pauli.specs.Rows.{zero_row};
 ghost use Rattle.tableau_laws.specs.Rules.{flipped, cleared, cleared_row, new_sign};
-ghost use Rattle.tableau_rows.specs.Parts.{label_in, Parted, Paired};
+ghost use Rattle.tableau_rows.specs.Parts.{Changes, label_in, Parted, Paired};
 
+use crate::store::{Pair, ZERO_LABEL};
+use pauli::bits::bit;
 use pauli::label::Label;
 use pauli::placed::PlacedGate;
 use pauli::row::Row;
+use std::ops::RangeTo;
 
-// A gate at each label, without the sign that it adds.
-pub(crate) fn carry_labels(labels: &mut [Label], count: usize, gate: PlacedGate)
-    requires { count ≤ length labels.old }
-    ensures { (i : ℕ) → i < count → slice_index_or labels.new i zero_label ≡ moved gate.gate (slice_index_or labels.old i zero_label) }
+// Changes what stands at each of the places in use. They are cut out here, since the check has no rule for `&mut self.pairs[..used]` where
+// the struct has invariants.
+pub(crate) fn each<T, F: Fn(&mut T)>(places: &mut [T], used: RangeTo<usize>, change: F)
+    requires callable { F.IsAlwaysCallable change }
+    requires room { used.end ≤ length places.old }
+    ensures { (d : T) (i : ℕ) → i < used.end
+        → Changes (F.post change) (slice_index_or places.old i d) (slice_index_or places.new i d) }
 {
-    for i in 0..count {
-        let plain = Row {
-            label: labels[i],
+    for place in places[used].iter_mut() {
+        change(place);
+    }
+}
+
+impl Pair {
+    // The destabilizer as a row.
+    pub(crate) fn destabilizer_row(self) -> Row
+        ensures { result ≡ record { label = self.destabilizer; sign = false } }
+    {
+        Row {
+            label: self.destabilizer,
             sign: false,
-        };
-        labels[i] = plain.carried(gate).label;
+        }
+    }
+
+    // A gate at both, at the destabilizer without the sign that it adds.
+    pub(crate) fn carry(&mut self, gate: PlacedGate)
+        ensures destabilizer { self.new.destabilizer ≡ moved gate.gate self.old.destabilizer }
+        ensures stabilizer { self.new.stabilizer ≡ carry gate.gate self.old.stabilizer }
+    {
+        self.destabilizer = self.destabilizer_row().carried(gate).label;
+        self.stabilizer = self.stabilizer.carried(gate);
+    }
+
+    // Each of the two that anticommutes with `b` is multiplied by `e`.
+    pub(crate) fn clear(&mut self, b: Label, e: Row)
+        ensures destabilizer { self.new.destabilizer ≡ cleared b e.label self.old.destabilizer }
+        ensures stabilizer { self.new.stabilizer ≡ cleared_row b e self.old.stabilizer }
+    {
+        if self.destabilizer.anticommutes(b) {
+            self.destabilizer = self.destabilizer.product(e.label);
+        }
+        clear(&mut self.stabilizer, b, e);
     }
 }
 
-// A gate at each row.
-pub(crate) fn carry_rows(rows: &mut [Row], count: usize, gate: PlacedGate)
-    requires { count ≤ length rows.old }
-    ensures { (i : ℕ) → i < count → slice_index_or rows.new i zero_row ≡ carry gate.gate (slice_index_or rows.old i zero_row) }
+// A row that anticommutes with `b` is multiplied by `e`.
+pub(crate) fn clear(row: &mut Row, b: Label, e: Row)
+    ensures { row.new ≡ cleared_row b e row.old }
 {
-    for i in 0..count {
-        rows[i] = rows[i].carried(gate);
+    if row.label.anticommutes(b) {
+        *row = row.times(e);
     }
 }
 
-// A coin 1 flips the sign of each row that anticommutes with `b`.
-pub(crate) fn flip_rows(rows: &mut [Row], count: usize, b: Label, coin: bool)
-    requires { count ≤ length rows.old }
-    ensures { (i : ℕ) → i < count → slice_index_or rows.new i zero_row ≡ flipped b coin (slice_index_or rows.old i zero_row) }
+// A coin 1 flips the sign of a row that anticommutes with `b`.
+pub(crate) fn flip(row: &mut Row, b: Label, coin: bool)
+    ensures { row.new ≡ flipped b coin row.old }
 {
-    for i in 0..count {
-        let row = rows[i];
-        rows[i] = Row {
-            label: row.label,
-            sign: row.sign ^ (coin & row.label.anticommutes(b)),
-        };
-    }
+    row.sign ^= coin & row.label.anticommutes(b);
 }
 
-// Each label that anticommutes with `b` is multiplied by `e`.
-pub(crate) fn clear_labels(labels: &mut [Label], count: usize, b: Label, e: Label)
-    requires { count ≤ length labels.old }
-    ensures { (i : ℕ) → i < count → slice_index_or labels.new i zero_label ≡ cleared b e (slice_index_or labels.old i zero_label) }
-{
-    for i in 0..count {
-        let label = labels[i];
-        labels[i] = if label.anticommutes(b) {
-            label.product(e)
-        } else {
-            label
-        };
-    }
-}
-
-// Each row that anticommutes with `b` is multiplied by `e`.
-pub(crate) fn clear_rows(rows: &mut [Row], count: usize, b: Label, e: Row)
-    requires { count ≤ length rows.old }
-    ensures { (i : ℕ) → i < count → slice_index_or rows.new i zero_row ≡ cleared_row b e (slice_index_or rows.old i zero_row) }
-{
-    for i in 0..count {
-        let row = rows[i];
-        rows[i] = if row.label.anticommutes(b) {
-            row.times(e)
-        } else {
-            row
-        };
-    }
-}
-
-// Parts rows in two, by whether they anticommute with `b`: the labels of those that do go to `turned`, and the others move up, each times `g`.
-// The answer is how many do.
-pub(crate) fn part(rows: &mut [Row], count: usize, b: Label, g: Row, turned: &mut [Label]) -> usize
-    requires { (count ≤ length rows.old) × (count ≤ length turned.old) }
-    ensures is { Parted b g rows.old rows.new turned.new count result }
-    ensures few { result ≤ count }
+// Parts rows in two, by whether they anticommute with `b`: the labels of those that do go to `turned`, and the others, each times `g`, to
+// `rest`, both in row order. The answer is how many do.
+pub(crate) fn part(rows: &[Row], b: Label, g: Row, turned: &mut [Label], rest: &mut [Row]) -> usize
+    requires { (length rows.now ≤ length turned.old) × (length rows.now ≤ length rest.old) }
+    ensures is { Parted b g rows.now rest.new turned.new (length rows.now) result }
+    ensures few { result ≤ length rows.now }
 {
     let mut found = 0;
-    for i in 0..count {
-        let row = rows[i];
+    let mut others = 0;
+    for row in rows {
         if row.label.anticommutes(b) {
             turned[found] = row.label;
             found += 1;
         } else {
-            rows[i - found] = row.times(g);
+            rest[others] = row.times(g);
+            others += 1;
         }
     }
     found
@@ -103,36 +98,26 @@ fn new_sign(g: Row, coins: u64, k: usize) -> bool
     requires { k < 64 }
     ensures { result ≡ new_sign g coins k }
 {
-    if k == 0 {
-        g.sign
-    } else {
-        (coins >> k) % 2 == 1
-    }
+    if k == 0 { g.sign } else { bit(coins, k as u32) }
 }
 
 // Each two labels make a stabilizer and its destabilizer, with the sum of all labels before the two added to both.
-// They are written from place `at` on.
-pub(crate) fn pair_up(
-    labels: &[Label],
-    pairs: usize,
-    g: Row,
-    coins: u64,
-    at: usize,
-    destabilizers: &mut [Label],
-    stabilizers: &mut [Row],
-)
-    requires { (pairs + pairs ≤ length labels.now) × ((pairs ≤ 64) × ((at + pairs ≤ length destabilizers.old) × ((at + pairs ≤ length stabilizers.old) × (at ≤ 64)))) }
-    ensures { Paired at (label_in labels.now) g coins destabilizers.old destabilizers.new stabilizers.old stabilizers.new pairs }
+pub(crate) fn pair_up(labels: &[Label], g: Row, coins: u64, pairs: &mut [Pair])
+    requires { (length pairs.old + length pairs.old ≤ length labels.now) × (length pairs.old ≤ 64) }
+    ensures { Paired (label_in labels.now) g coins pairs.new (length pairs.new) }
 {
-    let mut sum = Label { x: 0, z: 0 };
-    for k in 0..pairs {
+    let mut sum = ZERO_LABEL;
+    // By index, since k is also the coin's place, and after `pairs.iter_mut().zip(..)` nothing is known of what was written.
+    for (k, pair) in pairs.iter_mut().enumerate() {
         let stabilizer = labels[2 * k];
         let destabilizer = labels[2 * k + 1];
-        stabilizers[at + k] = Row {
-            label: stabilizer.product(sum),
-            sign: new_sign(g, coins, k),
+        *pair = Pair {
+            destabilizer: destabilizer.product(sum),
+            stabilizer: Row {
+                label: stabilizer.product(sum),
+                sign: new_sign(g, coins, k),
+            },
         };
-        destabilizers[at + k] = destabilizer.product(sum);
         sum = destabilizer.product(stabilizer.product(sum));
     }
 }

@@ -1,69 +1,66 @@
 // What the rows answer. Nothing changes.
-ghost use Rattle.std.specs.Prelude.{◌≡◌, ◌+◌, ◌-◌};
+ghost use Rattle.std.specs.Prelude.{◌≡◌, ◌+◌, ◌-◌, length, take};
 ghost use Rattle.tableau_laws.specs.Rules.{Rows, look_rows, sheet_of};
 ghost use Rattle.phase.specs.Answers.{value_answer};
 ghost use Rattle.tableau_laws.specs.Tableaux.{picked, fellow, stab_count, jw_count};
 ghost use Rattle.tableau_rows.specs.Held.{rows_of};
 
-use crate::store::RowStore;
+use crate::store::{Pair, RowStore, ZERO_ROW};
 use pauli::case::Case;
 use pauli::fault::Fault;
 use pauli::label::Label;
 use pauli::row::Row;
 
-pub(crate) const ZERO: Row = Row {
-    label: Label { x: 0, z: 0 },
-    sign: false,
-};
-
 impl RowStore {
-    // How many destabilizers there are, and how many stabilizers.
-    pub(crate) fn pairs(&self) -> usize
-        ensures { result ≡ self.now.size - self.now.width }
+    // The pairs in use.
+    pub(crate) fn pairs(&self) -> &[Pair]
+        ensures rows { result.now ≡ take (self.now.size - self.now.width) self.now.pairs }
+        ensures len { length result.now ≡ self.now.size - self.now.width }
     {
-        (self.size - self.width) as usize
+        &self.pairs[..(self.size - self.width) as usize]
     }
 
-    // How many Jordan-Wigner rows there are.
-    pub(crate) fn turning(&self) -> usize
-        ensures { result ≡ self.now.width + self.now.width + 1 }
+    // The Jordan-Wigner rows in use.
+    pub(crate) fn jordan_wigner(&self) -> &[Row]
+        ensures rows { result.now ≡ take (self.now.width + self.now.width + 1) self.now.jordan_wigner }
+        ensures len { length result.now ≡ self.now.width + self.now.width + 1 }
     {
-        2 * self.width as usize + 1
+        &self.jordan_wigner[..2 * self.width as usize + 1]
     }
 
     // The product of the stabilizers whose destabilizers anticommute with a label.
     pub(crate) fn picked(&self, b: Label) -> Row
         ensures { result ≡ picked (rows_of self.now).D (rows_of self.now).E b (rows_of self.now).m }
     {
-        let mut product = ZERO;
-        for j in 0..self.pairs() {
-            if self.destabilizers[j].anticommutes(b) {
-                product = product.times(self.stabilizers[j]);
+        let mut product = ZERO_ROW;
+        for pair in self.pairs() {
+            if pair.destabilizer.anticommutes(b) {
+                product = product.times(pair.stabilizer);
             }
         }
         product
     }
 
-    // How many stabilizers anticommute with a label.
-    pub(crate) fn stabilizers_against(&self, b: Label) -> u32
+    // How many stabilizers anticommute with a label. (A chain of `filter` and `count` takes twice as long, here and below.)
+    fn stabilizers_against(&self, b: Label) -> u32
         ensures { result ≡ stab_count (rows_of self.now).m (rows_of self.now).E b }
     {
         let mut count = 0;
-        for j in 0..self.pairs() {
-            if self.stabilizers[j].label.anticommutes(b) {
+        for pair in self.pairs() {
+            if pair.stabilizer.label.anticommutes(b) {
                 count += 1;
             }
         }
         count
     }
 
-    // How many Jordan-Wigner rows anticommute with a label.
-    pub(crate) fn jordan_wigner_against(&self, b: Label) -> u32
+    // How many Jordan-Wigner rows anticommute with a label. (A trait for what pairs and rows share here would be longer than either count.)
+    fn jordan_wigner_against(&self, b: Label) -> u32
         ensures { result ≡ jw_count (rows_of self.now).w (rows_of self.now).J b }
     {
         let mut count = 0;
-        for j in 0..self.turning() {
-            if self.jordan_wigner[j].label.anticommutes(b) {
+        for row in self.jordan_wigner() {
+            if row.label.anticommutes(b) {
                 count += 1;
             }
         }
@@ -74,13 +71,12 @@ impl RowStore {
     pub(crate) fn fellow(&self, b: Label) -> Row
         ensures { result ≡ fellow (rows_of self.now).J b ((rows_of self.now).w + (rows_of self.now).w + 1) }
     {
-        let mut found = ZERO;
-        for j in 0..self.turning() {
-            if !self.jordan_wigner[j].label.anticommutes(b) {
-                found = self.jordan_wigner[j];
-            }
-        }
-        found
+        self.jordan_wigner()
+            .iter()
+            .rev()
+            .find(|row| !row.label.anticommutes(b))
+            .copied()
+            .unwrap_or(ZERO_ROW)
     }
 
     // The case of a label, by how many rows of each kind anticommute with it, and the coins that its measurement needs.

@@ -23,13 +23,14 @@ impl RowStore {
         }
         let pairs = self.pairs();
         let i = (k - 1) as usize;
-        if i < pairs {
-            let label = self.destabilizers[i];
-            return Some(Row { label, sign: false });
+        if i < pairs.len() {
+            return Some(pairs[i].destabilizer_row());
         }
-        if i < pairs + pairs {
-            return Some(self.stabilizers[i - pairs]);
+        let i = i - pairs.len();
+        if i < pairs.len() {
+            return Some(pairs[i].stabilizer);
         }
-        Some(self.jordan_wigner[i - (pairs + pairs)])
+        let i = i - pairs.len();
+        Some(self.jordan_wigner[i])
     }
 }

@@ -9,7 +9,7 @@ loop-i-preserved g c =
     let all = g.S.CoinSource.coins c.args.source.now in
     let rest = g.S.CoinSource.coins c.loop-i.source in
     let after = g.S.CoinSource.coins c.draw.new.self in
-    rw (c.from.ensures, is) (read_more all c.loop-i.i c.loop-i.word c.in_ok-coin.coin rest after c.loop-i.invariant c.in_ok-coin.ensures)
+    rw (c.from-in-loop-i.ensures, is) (read_more all c.loop-i.i c.loop-i.word c.in_ok-coin.coin rest after c.loop-i.invariant c.in_ok-coin.ensures)
 
 -- a coin is always there, since enough were left at the start
 pub returns-in_err-coin : goal.returns-in_err-coin

@@ -1,27 +1,27 @@
-use Rattle.std.proofs.Common.{◌≡◌, ◌-◌, Bool, false, get_or, is_err, Ok, Err, sym, ap, ◌∙◌, arith, rules}
-use Rattle.pauli.specs.declared.fault.Fault.{Fault}
-use Rattle.pauli.specs.declared.fault.Fault.TheVariants.{BadForm}
-use Rattle.pauli.specs.Letters.{bits_of, all_letters}
-use Rattle.pauli.proofs.Texts.{gather_none, gather_more, not_letters, read_fault}
+use Rattle.std.proofs.Common.{◌≡◌, ◌-◌, ◌++◌, ◌∷◌, [], length, false, ◌∙◌, arith, rules}
+use Rattle.std.proofs.lemmas.List.{length_push}
+use Rattle.std.proofs.lemmas.List.Folds.{list_all_at}
+use Rattle.std.proofs.lemmas.Iterator.Adapters.{YieldsList-from_rev_slice}
+use Rattle.std.proofs.lemmas.Iterator.Consumers.{YieldsList-turn}
+use Rattle.pauli.specs.Letters.{is_letter, all_letters}
+use Rattle.pauli.proofs.Texts.{gather_more, is_no_code, from_end}
 use Rattle.pauli.proofs.label.gathered.Goals as goal
 
-pub loop-i-init : goal.loop-i-init
-loop-i-init c = gather_none c.args.text.now
-
-pub returns-in_err-x : goal.returns-in_err-x
-returns-in_err-x c =
+pub returns-in_err-try_from : goal.returns-in_err-try_from
+returns-in_err-try_from c =
     let t = c.args.text.now in
-    let k = c.loop-i.i - 1 in
-    let e = c.in_err-x.field-0.0 in
-    let read : bits_of (get_or t k 0) ≡ Err e = ap bits_of (sym c.from.ensures) ∙ sym c.letter_bits.ensures ∙ c.in_err-x.was in
-    let bad : all_letters t ≡ false = not_letters t k (omega arith) (ap (is_err {T = Bool × Bool} {E = Fault}) read) in
-    let form : e ≡ BadForm = read_fault (get_or t k 0) e read in
+    let turn = YieldsList-turn (YieldsList-from_rev_slice t cc) c.loop-byte.yielded _ c.loop-byte.yielded_by _ _ c.in-Some.byte c.in-Some.is c.next.ensures.steps in
+    let read = from_end t (length c.loop-byte.yielded) c.in-Some.byte.now turn in
+    let bad : all_letters t ≡ false = list_all_at is_letter t (length t - length c.loop-byte.yielded - 1) 0 (omega arith) (rw (read.1) (is_no_code _ c.in_err-try_from.ensures.1)) in
     rw bad (search rules)
 
-pub loop-i-preserved : goal.loop-i-preserved
-loop-i-preserved c =
+pub loop-byte-preserved : goal.loop-byte-preserved
+loop-byte-preserved c =
     let t = c.args.text.now in
-    let p = c.in_ok-x.x in
-    let q = c.in_ok-x.z in
-    let read : bits_of (get_or t (c.loop-i.i - 1) 0) ≡ Ok (p, q) = ap bits_of (sym c.from.ensures) ∙ sym c.letter_bits.ensures ∙ c.in_ok-x.was in
-    simp (c.from-in-loop-i.ensures, c.from-in-loop-i-2.ensures) (gather_more t c.loop-i.i c.loop-i.a (p, q) (omega arith) (omega arith) read c.loop-i.invariant)
+    let n = length c.loop-byte.yielded in
+    let turn = YieldsList-turn (YieldsList-from_rev_slice t cc) c.loop-byte.yielded _ c.loop-byte.yielded_by _ _ c.in-Some.byte c.in-Some.is c.next.ensures.steps in
+    let read = from_end t n c.in-Some.byte.now turn in
+    let more = length_push c.loop-byte.yielded c.in-Some.byte in
+    let next : length t - length (c.loop-byte.yielded ++ c.in-Some.byte ∷ []) ≡ length t - n - 1 = omega arith in
+    rw (next, c.from.ensures, c.from-in-loop-byte.ensures, c.bits-x.ensures)
+    (gather_more t (length t - n) c.loop-byte.label _ (omega arith) (omega arith) (read.1 ∙ c.in_ok-try_from.ensures) c.loop-byte.invariant)

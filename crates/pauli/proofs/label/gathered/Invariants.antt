@@ -1,5 +1,7 @@
+use Rattle.std.proofs.Common.{◌-◌, length}
 use Rattle.pauli.proofs.Texts.{Gathered}
 use Rattle.pauli.proofs.label.gathered.Given as goal
 
-abbrev pub invariant-loop-i : goal.invariant-loop-i
-invariant-loop-i l = Gathered l.text l.i l.a
+-- from the end on
+abbrev pub invariant-loop-byte : goal.invariant-loop-byte
+invariant-loop-byte l = Gathered l.text (length l.text - length l.yielded) l.label

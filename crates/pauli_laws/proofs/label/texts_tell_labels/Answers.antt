@@ -1,6 +1,7 @@
 -- The laws of texts, by induction over their letters.
 use Rattle.std.proofs.Common.{arith}
-use Rattle.pauli_laws.proofs.Texts.{text_length, text_codes, text_at, text_tells}
+use Rattle.pauli.proofs.Texts.{text_length, text_at}
+use Rattle.pauli_laws.proofs.Texts.{text_codes, text_tells}
 use Rattle.pauli_laws.proofs.label.texts_tell_labels.Goals as goal
 
 pub returns : goal.returns

@@ -4,4 +4,4 @@ use Rattle.text.proofs.Writing.{Partly}
 use Rattle.text.proofs.write.line.Given as goal
 
 abbrev pub invariant-loop-i : goal.invariant-loop-i
-invariant-loop-i l = Partly l.initial.out 0 (line_of l.fields) (line_of (drop l.i l.fields)) l.out l.at
+invariant-loop-i l = Partly l.initial.writer (line_of l.fields) (line_of (drop l.i l.fields)) l.writer

@@ -1,10 +1,13 @@
-use Rattle.std.proofs.Common.{refl, ⊎_elim, arith}
-use Rattle.journal.proofs.Kept.{length_events, kth_zero, kth_past, read_entry}
+use Rattle.std.proofs.Common.{◌≡◌, ◌-◌, ◌<◌, Some, arith}
+use Rattle.std.specs.List.{slice_get}
+use Rattle.std.proofs.lemmas.Option.{slice_get_read}
+use Rattle.journal.proofs.Kept.{read_entry}
 use Rattle.journal.proofs.journal.Journal.entry.Goals as goal
 
-pub returns-then-k-lt1 : goal.returns-then-k-lt1
-returns-then-k-lt1 c =
-    (refl, ⊎_elim (λ h. kth_zero _ c.args.k (omega arith)) (λ h. kth_past _ c.args.k (omega (arith, h, length_events c.args.self.now))) c.then-k-lt1.either)
-
-pub returns : goal.returns
-returns c = read_entry c.args.self.now c.args.k _ c.new.result (omega arith) (omega (arith, length_events c.args.self.now)) c.new.ensures
+pub returns-clause-reading : goal.returns-clause-reading
+returns-clause-reading c =
+    let before = c.in_ok-before.before in
+    let some : 0 < c.args.k = grind arith in
+    let is : before ≡ c.args.k - 1 = grind arith in
+    let there : slice_get c.args.self.now before ≡ Some c.in_ok-event.event.now = grind (arith, slice_get_read) in
+    read_entry _ c.args.k before _ _ c.events-events.ensures.lawful some is there c.new.ensures

@@ -1,35 +1,15 @@
-use Rattle.std.proofs.Common.{◌+◌, ◌<◌, drop, sym, ap, ◌∙◌, arith}
-use Rattle.std.specs.List.{slice_get}
-use Rattle.pauli.specs.declared.fault.Fault.TheVariants.{NoOutcome}
-use Rattle.journal.specs.Journals.{events, outcomes, answer}
-use Rattle.journal.proofs.Kept.{from_first, with_outcome, without_outcome, no_more, step_over}
+use Rattle.std.proofs.Common.{◌≡◌, ◌-◌, ◌<◌, ◌∙◌, arith, rules, tests}
+use Rattle.std.proofs.lemmas.Iterator.{YieldsList-from_slice}
+use Rattle.std.proofs.lemmas.Iterator.Consumers.{YieldsList-from_filter_map, nth_from_yields_List}
+use Rattle.journal.specs.Journals.{outcome_of}
+use Rattle.journal.proofs.Kept.{kth_answer}
 use Rattle.journal.proofs.journal.Journal.outcome.Goals as goal
-use Rattle.journal.proofs.journal.Journal.outcome.Goals.{in-Some+else-left-eq0, in_default}
-
-pub loop-i-preserved : goal.loop-i-preserved
-loop-i-preserved c =
-    let j = c.args.self.now in
-    let i = c.loop-i.i in
-    elim c.match-outcome_of.branch [
-      | in-Some+else-left-eq0 w ↦
-          let h : 0 < c.loop-i.left = omega (arith, w.if-left-eq0.false) in
-          ap (slice_get (outcomes (drop (i + 1) (events j)))) w.left-is ∙ sym (step_over w.in-Some.outcome _ c.loop-i.left h)
-          ∙ sym (ap (λ l. slice_get l c.loop-i.left) (with_outcome j i _ _ c.loop-i-test.true c.outcome_of.ensures _ w.in-Some.is)) ∙ c.loop-i.invariant
-      | in_default w ↦
-          ap (slice_get (outcomes (drop (i + 1) (events j)))) w.left-is
-          ∙ sym (ap (λ l. slice_get l c.loop-i.left) (without_outcome j i _ _ c.loop-i-test.true c.outcome_of.ensures w.in_default.is)) ∙ c.loop-i.invariant
-    ]
-
-pub returns-then-left-eq0 : goal.returns-then-left-eq0
-returns-then-left-eq0 c =
-    let j = c.args.self.now in
-    let i = c.loop-i.i in
-    sym (ap (answer NoOutcome) (
-    from_first (outcomes (events j)) c.args.k c.if-k-eq0.false ∙ sym c.loop-i.invariant ∙ ap (slice_get (outcomes (drop i (events j)))) c.if-left-eq0.true
-    ∙ ap (λ l. slice_get l 0) (with_outcome j i _ _ c.loop-i-test.true c.outcome_of.ensures _ c.in-Some.is)))
 
 pub returns : goal.returns
 returns c =
-    let j = c.args.self.now in
-    sym (ap (answer NoOutcome) (
-    from_first (outcomes (events j)) c.args.k c.if-k-eq0.false ∙ sym c.loop-i.invariant ∙ no_more j c.loop-i.i c.loop-i.left c.loop-i-test.false))
+    let before = c.in_ok-before.before in
+    let some : 0 < c.args.k = grind arith in
+    let is : before ≡ c.args.k - 1 = grind arith in
+    c.ok_or-2.ensures.value
+    ∙ kth_answer _ c.args.k before _ c.nth.result some is (nth_from_yields_List c.nth.result c.nth.new.self before c.nth.ensures.ran
+    (YieldsList-from_filter_map _ outcome_of (YieldsList-from_slice c.args.self.now cc) c.filter_map-outcomes.ensures.closure (λ x r q k. search (rules, tests))))

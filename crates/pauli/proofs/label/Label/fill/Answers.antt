@@ -1,14 +1,18 @@
-use Rattle.std.proofs.Common.{arith, rules}
+use Rattle.std.proofs.Common.{rules, length, arith, take_all, sym, ◌∙◌}
+use Rattle.std.proofs.lemmas.List.{take_more, take_more_set}
+use Rattle.pauli.proofs.Texts.{text_at, text_length}
 use Rattle.pauli.specs.Labels.{label_text}
-use Rattle.pauli.proofs.Texts.{fill_more, fill_done}
 use Rattle.pauli.proofs.label.Label.fill.Goals as goal
 
 pub loop-i-preserved : goal.loop-i-preserved
 loop-i-preserved c =
-    fill_more c.loop-i.out c.args.out.now c.args.len (label_text c.args.len c.args.self) c.loop-i.i c.loop-i.rest c.code.result
-    (omega arith) (omega arith) (search rules) c.loop-i.invariant.0 c.loop-i.invariant.1
+    let len = text_length (length c.args.text.now) c.args.self in
+    let is = text_at (length c.args.text.now) c.args.self c.loop-i.i (omega arith) in
+    let read = take_more (label_text (length c.args.text.now) c.args.self) c.loop-i.i 0 (omega arith) in
+    let write = take_more_set c.loop-i.text c.loop-i.i c.code.result (omega arith) in
+    search rules
 
 pub returns : goal.returns
 returns c =
-    fill_done c.loop-i.out c.args.out.now c.args.len (label_text c.args.len c.args.self) c.loop-i.i c.loop-i.rest
-    (omega arith) (omega arith) c.loop-i.invariant.0 c.loop-i.invariant.1
+    let len = text_length (length c.args.text.now) c.args.self in
+    sym (take_all c.loop-i.i c.loop-i.text (omega arith)) ∙ c.loop-i.invariant ∙ take_all c.loop-i.i _ (omega arith)

@@ -1,28 +1,11 @@
-use Rattle.std.proofs.Common.{◌≡◌, ◌^◌, ◌<◌, ◌≤◌, Bool, true, false, ◌&&◌, ltb, sym, ap, ◌∙◌, ap₂, lt_of_lt_of_le, pow_mono, rules, lt-ltb, eq-eqb, ne_eqb, le-leb}
+use Rattle.std.proofs.Common.{rules}
 use Rattle.pauli.specs.Labels.{fits}
-use Rattle.pauli.proofs.Words.{below_shift}
 use Rattle.pauli.proofs.label.Label.fits.Goals as goal
 
-pub returns-then-n-ge64 : goal.returns-then-n-ge64
+pub returns-then-below : goal.returns-then-below
 unfolding fits
-returns-then-n-ge64 c =
-    let n = c.args.n in
-    let h : 64 ≤ n = search rules in
-    let top : 2 ^ 64 ≤ 2 ^ n = pow_mono h in
-    let x : c.args.self.x < 2 ^ 64 = search rules in
-    let z : c.args.self.z < 2 ^ 64 = search rules in
-    le-leb 64 n h ∙ sym (ap₂ ◌&&◌ (lt-ltb _ _ (lt_of_lt_of_le x top)) (lt-ltb _ _ (lt_of_lt_of_le z top)))
+returns-then-below c = search rules
 
-pub returns-then-self-n-eq0 : goal.returns-then-self-n-eq0
+pub returns-else-below : goal.returns-else-below
 unfolding fits
-returns-then-self-n-eq0 c =
-    let n = c.args.n in
-    let x : ltb c.args.self.x (2 ^ n) ≡ true = sym (below_shift c.args.self.x n) ∙ eq-eqb _ _ (search rules) in
-    below_shift c.args.self.z n ∙ ap (λ (b : Bool). b && ltb c.args.self.z (2 ^ n)) (sym x)
-
-pub returns-else-self-n-eq0 : goal.returns-else-self-n-eq0
-unfolding fits
-returns-else-self-n-eq0 c =
-    let n = c.args.n in
-    let x : ltb c.args.self.x (2 ^ n) ≡ false = sym (below_shift c.args.self.x n) ∙ ne_eqb _ _ (search rules) in
-    below_shift c.args.self.x n ∙ x ∙ ap (λ (b : Bool). b && ltb c.args.self.z (2 ^ n)) (sym x)
+returns-else-below c = search rules

@@ -4,5 +4,5 @@ use Rattle.tableau_laws.specs.Tableaux.{labels}
 use Rattle.tableau_rows.specs.Held.{J_of}
 use Rattle.tableau_rows.proofs.store.RowStore.jordan_wigner_against.Given as goal
 
-abbrev pub invariant-loop-j : goal.invariant-loop-j
-invariant-loop-j l = l.count ≡ against (labels (J_of l.self)) l.b l.j
+abbrev pub invariant-loop-row : goal.invariant-loop-row
+invariant-loop-row l = l.count ≡ against (labels (J_of l.self)) l.b l.row-index

@@ -3,5 +3,5 @@ use Rattle.tableau_laws.specs.Tableaux.{picked}
 use Rattle.tableau_rows.specs.Held.{D_of, E_of}
 use Rattle.tableau_rows.proofs.store.RowStore.picked.Given as goal
 
-abbrev pub invariant-loop-j : goal.invariant-loop-j
-invariant-loop-j l = l.product ≡ picked (D_of l.self) (E_of l.self) l.b l.j
+abbrev pub invariant-loop-pair : goal.invariant-loop-pair
+invariant-loop-pair l = l.product ≡ picked (D_of l.self) (E_of l.self) l.b l.pair-index

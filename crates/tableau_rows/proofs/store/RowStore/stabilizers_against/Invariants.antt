@@ -4,5 +4,5 @@ use Rattle.tableau_laws.specs.Tableaux.{labels}
 use Rattle.tableau_rows.specs.Held.{E_of}
 use Rattle.tableau_rows.proofs.store.RowStore.stabilizers_against.Given as goal
 
-abbrev pub invariant-loop-j : goal.invariant-loop-j
-invariant-loop-j l = l.count ≡ against (labels (E_of l.self)) l.b l.j
+abbrev pub invariant-loop-pair : goal.invariant-loop-pair
+invariant-loop-pair l = l.count ≡ against (labels (E_of l.self)) l.b l.pair-index
