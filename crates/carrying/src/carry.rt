@@ -70,16 +70,10 @@ fn start(text: &[u8]) -> Result<Carrier<'_>, Stop>
     ensures { Starts text.entry result }
 {
     if text.len() > MOST_BYTES {
-        return Err(Stop {
-            line: 0,
-            fault: Fault::BadForm,
-        });
+        return at(0, Err(Fault::BadForm));
     }
     if text.is_empty() {
-        return Err(Stop {
-            line: 0,
-            fault: Fault::TextEnded,
-        });
+        return at(0, Err(Fault::TextEnded));
     }
     at(1, Carrier::of(text))
 }

@@ -18,7 +18,7 @@ impl Entry {
     pub fn new(number: u32, event: Event) -> Result<Entry, Fault>
         ensures { Answers (making_fault number event) (λ e. (e.number ≡ number) × (e.event ≡ event)) result }
     {
-        if number < 1 || 512 < number || !event.is_sound(number) {
+        if !(1..=512).contains(&number) || !event.is_sound(number) {
             return Err(Fault::BadForm);
         }
         Ok(Entry { number, event })

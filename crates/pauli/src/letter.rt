@@ -98,8 +98,6 @@ pub fn are_letters(text: &[u8]) -> bool
 pub fn letter_bits(c: char) -> Result<(bool, bool), Fault>
     ensures { result ≡ bits_of c }
 {
-    let Ok(code) = u8::try_from(c) else {
-        return Err(Fault::BadForm);
-    };
+    let code = u8::try_from(c).map_err(|_| Fault::BadForm)?;
     Ok(Letter::try_from(code)?.bits())
 }

@@ -12,7 +12,7 @@ use pauli::letter::Letter;
 use phase::point::PhasePoint;
 use phase::sheet::ValueSheet;
 
-// The values of X, Y and Z: true for 1.
+// The values of X, Y and Z: true for 1. They are bits that coins are added to.
 #[derive(Clone, Copy)]
 pub struct Qubit {
     pub x: bool,

@@ -69,6 +69,7 @@ fn show_row(rt: &HostRuntime, size: u32, number: u32, kind: u8, row: Row) -> io:
     show_line(rt, &page, written)
 }
 
+// The mark that is printed, and no code for it.
 fn kind_of(number: u32, pairs: u32) -> u8 {
     if number <= pairs {
         b'D'

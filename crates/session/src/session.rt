@@ -55,11 +55,7 @@ impl<P: PhasePoint, S: CoinSource> Session<P, S> {
     pub fn close(self) -> (P, S)
         ensures { (result.0 ≡ self.point) × (result.1 ≡ self.source) }
     {
-        let Session {
-            point,
-            source,
-            journal: _,
-        } = self;
+        let (point, source, _) = self.into_parts();
         (point, source)
     }
 

@@ -49,13 +49,9 @@ impl<'a> Fields<'a> {
         ensures { Shows same (Without (end_byte end)) (end_byte end) self.old result self.new }
     {
         let rest = self.rest();
-        match first(rest, end.byte()) {
-            Some(len) => {
-                self.at += len + 1;
-                Ok(&rest[..len])
-            }
-            None => Err(Fault::BadForm),
-        }
+        let len = first(rest, end.byte()).ok_or(Fault::BadForm)?;
+        self.at += len + 1;
+        Ok(&rest[..len])
     }
 
     // A number of one to three digits, with no leading zero.
@@ -173,8 +169,6 @@ fn are_coins(bytes: &[u8]) -> bool
 }
 
 // A number's text is what `{n}` prints; below 1000 it is one to three digits, the first of more than one not 0.
-pub fn numbers_are_decimal() -> u8
+pub fn numbers_are_decimal()
     ensures { ((n : ℕ) → num n ≡ decimal n) × ((n : ℕ) → n < 1000 → num n ≡ digits n) }
-{
-    0
-}
+{}

@@ -44,6 +44,7 @@ fn gate_len(gate: Gate) -> usize
     }
 }
 
+// By kind, as the field is written: its length has to be known before, so that a buffer that is too short stays as it is.
 fn field_len(field: Field) -> usize
     ensures is { result ≡ length (field_text field) }
     ensures few { result ≤ 4294967295 }
