@@ -64,13 +64,47 @@ const MINUS_Z: Image = Image {
     sign: true,
 };
 
-// What each gate makes of the letters I, X, Y and Z: one row to a gate, in the order of `OneQubit`.
-const GATES: [[Image; 4]; 5] = [
-    [I, Z, MINUS_Y, X],
-    [I, Y, MINUS_X, Z],
-    [I, X, MINUS_Y, MINUS_Z],
-    [I, MINUS_X, Y, MINUS_Z],
-    [I, MINUS_X, MINUS_Y, Z],
+// What a gate makes of each letter.
+#[derive(Clone, Copy)]
+pub struct Images {
+    i: Image,
+    x: Image,
+    y: Image,
+    z: Image,
+}
+
+// One row to a gate, in the order of `OneQubit`.
+const GATES: [Images; 5] = [
+    Images {
+        i: I,
+        x: Z,
+        y: MINUS_Y,
+        z: X,
+    },
+    Images {
+        i: I,
+        x: Y,
+        y: MINUS_X,
+        z: Z,
+    },
+    Images {
+        i: I,
+        x: X,
+        y: MINUS_Y,
+        z: MINUS_Z,
+    },
+    Images {
+        i: I,
+        x: MINUS_X,
+        y: Y,
+        z: MINUS_Z,
+    },
+    Images {
+        i: I,
+        x: MINUS_X,
+        y: MINUS_Y,
+        z: Z,
+    },
 ];
 
 impl OneQubit {
@@ -79,7 +113,7 @@ impl OneQubit {
         ensures { result ≡ image_of self letter }
     {
         // A gate's place in the table is its place in the enum.
-        let [i, x, y, z] = GATES[self as usize];
+        let Images { i, x, y, z } = GATES[self as usize];
         match letter {
             Letter::I => i,
             Letter::X => x,

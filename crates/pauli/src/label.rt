@@ -5,7 +5,7 @@ ghost use Rattle.pauli.specs.Faults.{Answers};
 ghost use Rattle.pauli.specs.Letters.{all_letters};
 ghost use Rattle.pauli.specs.Labels.{plus, pairing, beta, fits, Within, at, product_sign, letter_fault, label_text, reading_fault, writing_fault};
 
-use crate::bits::{below, bit};
+use crate::bits::{below, bit, bit_within};
 use crate::fault::Fault;
 use crate::letter::{Letter, are_letters};
 use crate::qubits::{is_size, on_board};
@@ -77,6 +77,14 @@ impl Label {
         Letter::from_bits(bit(self.x, i), bit(self.z, i))
     }
 
+    // The same where there is such a qubit: gates and texts ask for a letter so often that the test would be felt.
+    pub(crate) fn at_within(self, i: u32) -> Letter
+        requires { i < 64 }
+        ensures { result ≡ at self i }
+    {
+        Letter::from_bits(bit_within(self.x, i), bit_within(self.z, i))
+    }
+
     // The letter at a qubit.
     pub fn letter(self, qubit: u32) -> Result<Letter, Fault>
         ensures { Answers (letter_fault qubit) (λ l. l ≡ at self (qubit - 1)) result }
@@ -128,7 +136,7 @@ impl Label {
         ensures { text.new ≡ label_text (length text.old) self }
     {
         for (i, byte) in text.iter_mut().enumerate() {
-            *byte = self.at(i as u32).code();
+            *byte = self.at_within(i as u32).code();
         }
     }
 }

@@ -81,7 +81,8 @@ impl TryFrom<u8> for Letter {
     }
 }
 
-fn is_letter(byte: u8) -> bool
+// Whether a byte is a letter's code.
+pub fn is_letter(byte: u8) -> bool
     ensures { result ≡ is_letter byte }
 {
     Letter::try_from(byte).is_ok()

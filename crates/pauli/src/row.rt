@@ -6,7 +6,7 @@ ghost use Rattle.pauli.specs.Labels.{pairing};
 ghost use Rattle.pauli.specs.Rows.{row, times};
 ghost use Rattle.pauli.specs.Gates.{turned, turn_flips, crossed, cross_flips, carry, placing_fault};
 
-use crate::bits::{bit, with_bit};
+use crate::bits::{bit_within, with_bit};
 use crate::fault::Fault;
 use crate::gate::{Gate, OneQubit};
 use crate::label::Label;
@@ -46,7 +46,7 @@ impl Row {
         ensures { result ≡ row (turned gate (qubit - 1) self.label) (xorb self.sign (turn_flips gate (qubit - 1) self.label)) }
     {
         let i = qubit - 1;
-        let image = gate.image(self.label.at(i));
+        let image = gate.image(self.label.at_within(i));
         let (x, z) = image.letter.bits();
         Row {
             label: Label {
@@ -63,16 +63,16 @@ impl Row {
     {
         let c = control - 1;
         let t = target - 1;
-        let xc = bit(self.label.x, c);
-        let xt = bit(self.label.x, t);
-        let zc = bit(self.label.z, c);
-        let zt = bit(self.label.z, t);
+        let xc = bit_within(self.label.x, c);
+        let xt = bit_within(self.label.x, t);
+        let zc = bit_within(self.label.z, c);
+        let zt = bit_within(self.label.z, t);
         Row {
             label: Label {
                 x: with_bit(self.label.x, t, xt ^ xc),
                 z: with_bit(self.label.z, c, zc ^ zt),
             },
-            sign: self.sign ^ (xc && zt && (xt == zc)),
+            sign: self.sign ^ (xc & zt & (xt == zc)),
         }
     }
 
