@@ -1,9 +1,12 @@
 -- Coins read all at once, and `-` for none.
-use Rattle.std.proofs.Common.{◌≡◌, ℕ, zero, suc, ◌+◌, ◌*◌, ◌/◌, ◌%◌, ◌^◌, ◌<◌, ◌≤◌, ◌==◌, true, cond, List, [], ◌∷◌, ◌++◌, length, get_or, drop, sym, refl, ap, ◌∙◌, subst, append_assoc, arith, pow_mono}
+use Rattle.std.proofs.Common.{◌≡◌, ℕ, zero, suc, ◌+◌, ◌*◌, ◌/◌, ◌%◌, ◌^◌, ◌<◌, ◌≤◌, ◌==◌, Bool, true, false, cond, List, [], ◌∷◌, ◌++◌, length, get_or, drop, sym, refl, ap, ◌∙◌, subst, append_assoc, arith, pow_mono}
 use native.Mathlib.Nat.{pow-succ'}
+use Rattle.std.specs.List.{list_all}
 use Rattle.std.proofs.lemmas.Bool.Decides.{nat_tests}
+use Rattle.std.proofs.lemmas.List.Elements.{All-get_or, All-from_get_or}
+use Rattle.std.proofs.lemmas.List.Sums.{AllPass-from_list_all, list_all-from_AllPass}
 use Rattle.text.specs.Reading.{Hit, Miss}
-use Rattle.text.specs.Texts.{Any, one, num, Short, is_coin, same, Coins, coins, coin_text}
+use Rattle.text.specs.Texts.{Any, one, num, Short, is_coin, same, Long, Coins, coins, coin_text}
 use Rattle.text.proofs.Words.{length_coins, coin_some, coin_none}
 use Rattle.journal_lines.specs.Parts.{Bits, word, drawn_text, Drawn}
 
@@ -58,26 +61,29 @@ coins_seen : (n c : ℕ) (here rest : List ℕ) → 0 < n → here ≡ coin_text
 coins_seen n c here rest some d = d ∙ ap (λ f. f c ++ 10 ∷ rest) (coin_some n some)
 
 module _ (n : ℕ) (some : 0 < n) {t : List ℕ} {at : ℕ} where
-  pub coins_miss : Miss same Coins 10 t at → Miss (coin_text n) (Bits n) 10 t at
-  coins_miss miss = record { never = λ c rest h d. miss.never (coins n c) rest (coins_are n c) (coins_seen n c _ rest some d) }
+  pub coins_miss : Miss same (Long n) 10 t at → Miss (coin_text n) (Bits n) 10 t at
+  coins_miss miss = record { never = λ c rest h d. miss.never (coins n c) rest (length_coins n c) (coins_seen n c _ rest some d) }
 
-  module _ {l : List ℕ} {to : ℕ} (hit : Hit same Coins 10 t at l to) where
-    pub coins_other : (length l ≡ n → ⊥) → Miss (coin_text n) (Bits n) 10 t at
+  module _ {l : List ℕ} {to : ℕ} (hit : Hit same (Long n) 10 t at l to) where
+    pub coins_other : list_all is_coin l ≡ false → Miss (coin_text n) (Bits n) 10 t at
     coins_other other = record {
       never = λ c rest h d.
-          let o = hit.only (coins n c) rest (coins_are n c) (coins_seen n c _ rest some d) in
-          other (ap length (sym o.0) ∙ length_coins n c);
+          let o = hit.only (coins n c) rest (length_coins n c) (coins_seen n c _ rest some d) in
+          let all : list_all is_coin (coins n c) ≡ true = list_all-from_AllPass is_coin (coins n c) (All-from_get_or (λ b. is_coin b ≡ true) (coins n c) 0 (coins_are n c).each) in
+          absurd (let z : ◌≡◌ {A = Bool} true false = sym all ∙ ap (list_all is_coin) o.0 ∙ other in cc);
     }
 
-    pub coins_hit : (w : ℕ) → length l ≡ n → w ≡ word l → Hit (coin_text n) (Bits n) 10 t at w to
-    coins_hit w long is =
-        let back : coins n w ≡ l = (λ i. coins (sym long i) (is i)) ∙ coins_back l hit.law.each in
+    pub coins_hit : (w : ℕ) → list_all is_coin l ≡ true → w ≡ word l → Hit (coin_text n) (Bits n) 10 t at w to
+    coins_hit w all is =
+        let long = hit.law in
+        let each : (i : ℕ) → i < length l → is_coin (get_or l i 0) ≡ true = λ i h. All-get_or (λ b. is_coin b ≡ true) l i 0 h (AllPass-from_list_all is_coin l all) in
+        let back : coins n w ≡ l = (λ i. coins (sym long i) (is i)) ∙ coins_back l each in
         record {
           law = subst (λ k. w < 2 ^ k) long (subst (λ v. v < 2 ^ length l) (sym is) (word_below l));
           within = hit.within;
           is = hit.is ∙ ap (λ x. x ++ 10 ∷ drop to t) (sym back ∙ ap (λ f. f w) (sym (coin_some n some)));
           only = λ c rest h d.
-              let o = hit.only (coins n c) rest (coins_are n c) (coins_seen n c _ rest some d) in
+              let o = hit.only (coins n c) rest (length_coins n c) (coins_seen n c _ rest some d) in
               (sym (word_back n c h) ∙ ap word o.0 ∙ sym is, o.1);
         }
 

@@ -9,7 +9,7 @@ use pauli::case::Case;
 use pauli::fault::Fault;
 use pauli::label::Label;
 use text::end::End;
-use text::read::Fields;
+use text::read::{Fields, are_coins};
 
 fn case(fields: &mut Fields) -> Result<Case, Fault>
     ensures { Takes case_text Any 44 fields.old result fields.new }
@@ -65,8 +65,8 @@ fn coins(fields: &mut Fields, count: u32) -> Result<u64, Fault>
             _ => Err(Fault::BadForm),
         };
     }
-    let digits = fields.coins(End::LineFeed)?;
-    if digits.len() != count as usize {
+    let digits = fields.bytes(count as usize, End::LineFeed)?;
+    if !are_coins(digits) {
         return Err(Fault::BadForm);
     }
     Ok(word_of(digits))

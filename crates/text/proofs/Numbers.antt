@@ -1,10 +1,17 @@
 -- The digits of a number below 1000, and the fields that they are.
-use Rattle.std.proofs.Common.{◌≡◌, ℕ, zero, suc, ◌+◌, ◌*◌, ◌/◌, ◌%◌, ◌^◌, ◌<◌, ◌≤◌, List, [], ◌∷◌, ◌++◌, length, get_or, drop, sym, refl, ap, ◌∙◌, subst, ⊎_elim, arith}
+use Rattle.std.proofs.Common.{◌≡◌, ℕ, zero, suc, ◌+◌, ◌*◌, ◌/◌, ◌%◌, ◌^◌, ◌<◌, ◌≤◌, ◌≢◌, ◌==◌, min, Bool, true, false, List, [], ◌∷◌, ◌++◌, length, get_or, take, drop, Some, None, Option, sym, refl, ap, ◌∙◌, subst, ⊎_elim, arith, length-append}
+use Rattle.std.specs.List.{position, position_or_len}
 use Rattle.std.proofs.lemmas.Bool.{cases_lt, lt-ltb, le-ltb}
+use Rattle.std.proofs.lemmas.Bool.Decides.{nat_tests}
+use Rattle.std.proofs.lemmas.Grind.{common_steps}
+use Rattle.std.proofs.lemmas.List.{get_or_at, get_or_append_left, get_or-take, length-take-le}
+use Rattle.std.proofs.lemmas.List.Sums.{position_or_len_is}
+use Rattle.std.proofs.lemmas.List.Quantifiers.{position-Some}
 use Rattle.std.proofs.lemmas.Fmt.{decimal_digit, decimal_step, decimal_injective, length-decimal-le}
 use Rattle.text.specs.Reading.{Hit, Miss}
-use Rattle.text.specs.Texts.{num, Short, digits, same, Without}
-use Rattle.text.proofs.Fields.{named_miss}
+use Rattle.text.specs.Texts.{num, Short, digits, Without}
+use Rattle.std.proofs.Math.Seq.{take-append_seam}
+use Rattle.text.proofs.Cuts.{apart, bytes_hit}
 use Rattle.text.proofs.Places.{peel}
 
 -- one digit, and one more
@@ -151,7 +158,7 @@ spelled_three (x ∷ y ∷ z ∷ w ∷ xs) a b c l p q r k e f g = absurd (omega
 
 pub ruleset spells = (not_spelled, spelled_one, spelled_two, spelled_three)
 
--- a number's field is all that stands before its end
+-- a number's end stands first among the four bytes from the number's place on
 module _ (end : ℕ) (low : end < 48) where
   pub num_without : (n : ℕ) → Short n → Without end (num n)
   num_without n h = let d = numeral (num n) n h refl in record { each = λ i l e. go i d l e }
@@ -162,17 +169,66 @@ module _ (end : ℕ) (low : end < 48) where
       go (suc (suc zero)) d l e = omega (arith, d.third l)
       go (suc (suc (suc i))) d l e = omega (arith, d.few)
 
-  module _ {t : List ℕ} {at : ℕ} where
-    pub number_hit : {l : List ℕ} {to : ℕ} (n : ℕ) → Short n → l ≡ num n → Hit same (Without end) end t at l to → Hit num Short end t at n to
-    number_hit {l} {to} n h e hit = record {
-      law = h;
-      within = hit.within;
-      is = hit.is ∙ ap (λ x. x ++ end ∷ drop to t) e;
-      only = λ m rest k d. let o = hit.only (num m) rest (num_without m k) d in (num_same m n k h (o.0 ∙ e), o.1);
-    }
+  module _ (rest : List ℕ) (stop : ℕ) (ends : stop ≡ end) (room : ℕ) (enough : room ≡ min (length rest) 4) where
+    abbrev stops : ℕ → Bool
+    stops b = b == stop
 
-    pub number_miss : Miss same (Without end) end t at → Miss num Short end t at
-    number_miss = named_miss same (Without end) num Short num (λ n. refl) num_without
+    other : (b : ℕ) → b ≢ end → stops b ≡ false
+    other b h = grind (arith, nat_tests)
 
-    pub number_not : {l : List ℕ} {to : ℕ} → ((n : ℕ) → Short n → l ≡ num n → ⊥) → Hit same (Without end) end t at l to → Miss num Short end t at
-    number_not other hit = record { never = λ n rest h d. other n h (sym (hit.only (num n) rest (num_without n h) d).0) }
+    same_byte : (b : ℕ) → b ≡ end → stops b ≡ true
+    same_byte b h = grind (arith, nat_tests)
+
+    is_stop : (b : ℕ) → stops b ≡ true → b ≡ end
+    is_stop b h = grind (arith, nat_tests)
+
+    ended : (n : ℕ) (more : List ℕ) → Short n → rest ≡ num n ++ end ∷ more → position stops (take room rest) ≡ Some (length (num n))
+    ended n more h whole =
+        let few = (numeral (num n) n h refl).few in
+        let long : length rest ≡ length (num n) + (length more + 1) = omega (arith, ap length whole, length-append (num n) (end ∷ more)) in
+        let wide : length (take room rest) ≡ room = length-take-le room rest (omega arith) in
+        let seen : (i : ℕ) → i ≤ length (num n) → get_or (take room rest) i 0 ≡ get_or (num n ++ end ∷ more) i 0 =
+        λ i l. get_or-take room rest i 0 (omega arith) ∙ ap (λ x. get_or x i 0) whole in
+        let at_end : position_or_len stops (take room rest) ≡ length (num n) =
+        position_or_len_is stops (take room rest) (length (num n)) 0 (omega arith)
+        (λ i l. other (get_or (take room rest) i 0) (λ b. (num_without n h).each i l (sym (get_or_append_left (num n) (end ∷ more) 0 i l) ∙ sym (seen i (omega arith)) ∙ b)))
+        (λ l. same_byte (get_or (take room rest) (length (num n)) 0) (seen (length (num n)) (omega arith) ∙ get_or_at (num n) end more 0 (length (num n)) refl)) in
+        let within : length (num n) < length (take room rest) = omega arith in
+        grind (arith, common_steps)
+
+    -- so where it stands nowhere there, no number does
+    pub first_none : None ≡ position stops (take room rest) → (n : ℕ) (more : List ℕ) → Short n → rest ≢ num n ++ end ∷ more
+    first_none none n more h e = let both : ◌≡◌ {A = Option ℕ} None (Some (length (num n))) = none ∙ ended n more h e in absurd (cc)
+
+    -- and a number is the bytes before it
+    module _ (count : ℕ) (found : Some count ≡ position stops (take room rest)) where
+      pub first_not : ((n : ℕ) → Short n → take count rest ≡ num n → ⊥) → (n : ℕ) (more : List ℕ) → Short n → rest ≢ num n ++ end ∷ more
+      first_not none n more h e =
+          let both : Some count ≡ Some (length (num n)) = found ∙ ended n more h e in
+          let long : count ≡ length (num n) = cc in
+          none n h (ap (take count) e ∙ ap (λ k. take k (num n ++ end ∷ more)) long ∙ take-append_seam (num n) (end ∷ more))
+
+      pub first_ends : (count < length rest) × (get_or rest count 0 ≡ end)
+      first_ends =
+          let p = position-Some stops (take room rest) count 0 (sym found) in
+          let wide : length (take room rest) ≡ room = length-take-le room rest (omega (arith, enough)) in
+          let low : count < room = omega arith in
+          (omega arith, sym (get_or-take room rest count 0 low) ∙ is_stop (get_or (take room rest) count 0) p.1)
+
+  -- what a reader of a number's field answers
+  module _ (t rest : List ℕ) (at : ℕ) (here : rest ≡ drop at t) where
+    pub number_miss : ((n : ℕ) (more : List ℕ) → Short n → rest ≢ num n ++ end ∷ more) → Miss num Short end t at
+    number_miss none = record { never = λ n more h e. none n more h (here ∙ e) }
+
+    pub number_hit : (n count : ℕ) → Short n → count < length rest → take count rest ≡ num n → get_or rest count 0 ≡ end → Hit num Short end t at n (at + (count + 1))
+    number_hit n count h some e stops =
+        let hit = bytes_hit t rest at end count here some stops in
+        let whole = hit.is ∙ ap (λ x. x ++ end ∷ drop (at + (count + 1)) t) e in
+        record {
+          law = h;
+          within = hit.within;
+          is = whole;
+          only = λ m more k d.
+              let o = apart end (num m) (num n) more (drop (at + (count + 1)) t) (num_without m k) (num_without n h) (sym d ∙ whole) in
+              (num_same m n k h o.0, o.1);
+        }

@@ -1,5 +1,5 @@
 -- The text of a value that stands in a field, and which values a field takes.
-use Rattle.std.specs.Prelude.{◌≡◌, ℕ, zero, suc, ◌+◌, ◌/◌, ◌%◌, ◌<◌, Bool, true, false, cond, ◌||◌, List, [], ◌∷◌, ◌++◌, length, Ok, Err, decimal, Result, ◌==◌, ◌≢◌, nat_lt, slice_index}
+use Rattle.std.specs.Prelude.{◌≡◌, ℕ, zero, suc, ◌+◌, ◌/◌, ◌%◌, ◌<◌, Bool, true, false, cond, ◌||◌, List, [], ◌∷◌, ◌++◌, length, take, Some, None, Ok, Err, decimal, Option, Result, ◌==◌, ◌≢◌, nat_lt, slice_index}
 use Rattle.pauli.specs.declared.fault.Fault.{Fault}
 use Rattle.pauli.specs.declared.fault.Fault.TheVariants.{BadForm}
 use Rattle.pauli.specs.declared.gate.OneQubit.{OneQubit}
@@ -45,6 +45,11 @@ abbrev pub Spelled : {A : Type 0} (w : A → List ℕ) (L : A → Type 0) (t : L
 Spelled w L t (Ok a) = L a × (t ≡ w a)
 Spelled {A} w L t (Err f) = (f ≡ BadForm) × ((a : A) → L a → t ≢ w a)
 
+-- a number that a field takes stands first, and its end after it: how it is written, and where its end stands
+abbrev pub NumberFirst : List ℕ → ℕ → Result (ℕ × ℕ) Fault → Type 0
+NumberFirst t end (Ok p) = Short p.0 × (p.1 < length t) × (take p.1 t ≡ num p.0) × (slice_index t p.1 ≡ end)
+NumberFirst t end (Err f) = (f ≡ BadForm) × ((n : ℕ) (more : List ℕ) → Short n → t ≢ num n ++ end ∷ more)
+
 -- a one-qubit gate and its qubit, as `H,1`
 abbrev pub turn_text : OneQubit × ℕ → List ℕ
 turn_text p = gate_byte p.0 ∷ 44 ∷ num p.1
@@ -80,6 +85,12 @@ pub record Letters (l : List ℕ) : Type 0 where
   pub some : 0 < length l
   pub each : (i : ℕ) → i < length l → Letter (slice_index l i)
 
+-- how many letters a field may have, of so many that stand at its place: none are no field
+abbrev pub some_first : Option ℕ → Option ℕ
+some_first None = None
+some_first (Some zero) = None
+some_first (Some (suc n)) = Some (suc n)
+
 -- a coin is written as a digit 0 or 1
 abbrev pub is_coin : ℕ → Bool
 is_coin b = b == 48 || b == 49
@@ -96,6 +107,10 @@ coins (suc n) c = (48 + c % 2) ∷ coins n (c / 2)
 -- no coins are `-`
 unfoldable pub coin_text : ℕ → ℕ → List ℕ
 coin_text n c = cond (n == 0) (45 ∷ []) (coins n c)
+
+-- so many bytes, written as they are
+abbrev pub Long : ℕ → List ℕ → Type 0
+Long n l = length l ≡ n
 
 -- any bytes, written as they are, but not that one
 pub record Without (end : ℕ) (l : List ℕ) : Type 0 where

@@ -1,4 +1,4 @@
-use Rattle.std.proofs.Common.{refl, arith}
+use Rattle.std.proofs.Common.{refl, sym, ◌∙◌, arith}
 use Rattle.text.proofs.Places.{let_go}
 use Rattle.journal_lines.proofs.Coins.{coins_miss, coins_other, coins_hit, dash_miss, dash_not, dash_hit}
 use Rattle.journal_lines.proofs.parts.coins.Goals as goal
@@ -19,10 +19,10 @@ pub returns-in_err-digits : goal.returns-in_err-digits
 returns-in_err-digits c =
     let_go _ _ _ _ _ _ _ c.from_residual-in_err-digits.ensures.1 c.in_err-digits.ensures.0 (coins_miss _ (omega arith) c.in_err-digits.ensures.2)
 
-pub returns-then-digits-count : goal.returns-then-digits-count
-returns-then-digits-count c = (refl, coins_other _ (omega arith) c.in_ok-digits.ensures.1 c.if-digits-count.true)
+pub returns-then-not-are_coins : goal.returns-then-not-are_coins
+returns-then-not-are_coins c = (refl, coins_other _ (omega arith) c.in_ok-digits.ensures.1 (sym c.are_coins.ensures ∙ c.if-not-are_coins.true))
 
 pub returns : goal.returns
 returns c =
     let h = c.in_ok-digits.ensures in
-    (h.0, coins_hit _ (omega arith) h.1 _ c.if-digits-count.false c.word_of.ensures)
+    (h.0, coins_hit _ (omega arith) h.1 _ (sym c.are_coins.ensures ∙ c.if-not-are_coins.false) c.word_of.ensures)

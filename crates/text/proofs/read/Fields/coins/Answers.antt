@@ -1,13 +1,16 @@
-use Rattle.std.proofs.Common.{refl, ◌∙◌, sym}
+use Rattle.std.proofs.Common.{refl, sym, ◌∙◌}
+use Rattle.text.specs.Ends.{end_byte}
+use Rattle.text.specs.Texts.{is_coin, Coins}
 use Rattle.text.proofs.Places.{end_low}
-use Rattle.text.proofs.Runs.{coins_hit, coins_not}
+use Rattle.text.proofs.Runs.{no_coin, run_none, run_shows}
 use Rattle.text.proofs.read.Fields.coins.Goals as goal
 
-pub returns-then-not-are_coins : goal.returns-then-not-are_coins
-returns-then-not-are_coins c =
-    (refl, refl, coins_not _ (end_low c.args.end) c.in_ok-coins.ensures.1 (sym c.are_coins.ensures ∙ c.if-not-are_coins.true))
+pub returns-in-None : goal.returns-in-None
+returns-in-None c =
+    let out = no_coin (end_byte c.args.end) (end_low c.args.end) in
+    (refl, refl, run_none is_coin Coins (λ l law. law.each) _ out _ _ _ c.rest.ensures.is (sym c.in-None.is ∙ c.coins_first.ensures))
 
-pub returns : goal.returns
-returns c =
-    let h = c.in_ok-coins.ensures in
-    (h.0, coins_hit _ (end_low c.args.end) h.1 (sym c.are_coins.ensures ∙ c.if-not-are_coins.false), h.2, h.3)
+pub returns-in-Some : goal.returns-in-Some
+returns-in-Some c =
+    let out = no_coin (end_byte c.args.end) (end_low c.args.end) in
+    run_shows is_coin Coins (λ l law. law.each) _ out _ _ _ _ _ c.rest.ensures.is (sym c.in-Some.is ∙ c.coins_first.ensures) (λ l n each. record { each = each }) c.bytes.ensures
