@@ -1,8 +1,8 @@
 -- The events of a journal: each lawful at its place, and the outcomes among them.
-use Rattle.std.proofs.Common.{◌≡◌, ℕ, zero, suc, ◌+◌, ◌-◌, ◌<◌, Bool, true, false, cond, leb, List, [], ◌∷◌, ◌++◌, length, get_or, take, set, Some, None, Ok, Err, Option, Result, ok_or, option_map, sym, refl, ap, ◌∙◌, subst, le_of_suc-le-suc, arith, length-set}
-use Rattle.std.proofs.lemmas.List.{length-take-le, take_more_set}
+use Rattle.std.proofs.Common.{◌≡◌, ℕ, zero, suc, ◌+◌, ◌-◌, ◌<◌, Bool, true, false, cond, leb, List, [], ◌∷◌, ◌++◌, length, get_or, take, set, replicate, ◌⊎◌, inl, inr, ◌≤◌, Some, None, Ok, Err, Option, Result, ok_or, option_map, sym, refl, ap, ◌∙◌, subst, le_of_suc-le-suc, arith, length-set}
+use Rattle.std.proofs.lemmas.List.{length-take-le, take_more_set, get_or-set_other, get_or-replicate, get_or_past, length-replicate}
 use Rattle.std.proofs.lemmas.Option.{slice_get_within, get_or_from_slice_get}
-use Rattle.std.proofs.lemmas.Bool.{and_from, and_parts, le-leb, both_ways}
+use Rattle.std.proofs.lemmas.Bool.{and_from, and_parts, le-leb, both_ways, cases_lt}
 use Rattle.std.specs.List.{slice_get}
 use Rattle.pauli.specs.declared.fault.Fault.{Fault}
 use Rattle.pauli.specs.declared.fault.Fault.TheVariants.{BadForm}
@@ -11,11 +11,19 @@ use Rattle.journal_lines.specs.declared.entry.Entry.{Entry}
 use Rattle.journal_lines.specs.declared.event.Event.{Event}
 use Rattle.journal.specs.Journals.{kth, answer, Reading}
 use Rattle.journal_lines.specs.Lawful.{numbered, sound, lawful, making_fault}
-use Rattle.journal.specs.Places.{all_lawful, Kept}
+use Rattle.journal.specs.Places.{all_lawful, blank, Kept}
 
 -- as many slots are taken as there are events
 pub length_kept : (len : ℕ) (slots es : List Event) → Kept len slots → take len slots ≡ es → len ≡ length es
 length_kept len slots es kept is = let o = kept.room in let w = kept.whole in sym (length-take-le len slots (omega arith)) ∙ ap length is
+
+-- an empty journal
+pub kept_none : Kept 0 (replicate 512 blank)
+kept_none = record { room = omega arith; whole = length-replicate 512 blank; lawful = refl; others = λ i h. blanks i (cases_lt i 512) }
+  where
+    blanks : (i : ℕ) → (i < 512) ⊎ (512 ≤ i) → get_or (replicate 512 blank) i blank ≡ blank
+    blanks i (inl l) = get_or-replicate 512 i blank blank l
+    blanks i (inr g) = get_or_past (replicate 512 blank) i blank (omega (arith, length-replicate 512 blank))
 
 -- ---- each lawful at its place
 
@@ -53,6 +61,7 @@ module _ (len : ℕ) (slots es : List Event) (kept : Kept len slots) (is : take 
         whole = length-set slots len e ∙ kept.whole;
         lawful = ap (all_lawful 1) one_more
             ∙ all_push 1 es e (subst (λ (xs : List Event). all_lawful 1 xs ≡ true) is kept.lawful) (subst (λ k. lawful k e ≡ true) z here);
+        others = λ i h. get_or-set_other slots len i e blank (λ z. omega arith) ∙ kept.others i (omega arith);
       }
 
 -- ---- the k-th

@@ -40,7 +40,13 @@ impl<'a> fmt::Display for Letters<'a> {
     }
 }
 
-// The coins that a measurement drew, first coin first.
+fn digit(bit: bool) -> &'static str
+    ensures { result.now ≡ digit_word bit }
+{
+    if bit { "1" } else { "0" }
+}
+
+// The coins that a measurement drew, first coin first. A digit is a text of its own, which takes less time than a number.
 #[derive(Clone, Copy)]
 struct Coins<'a>(&'a Measurement);
 
@@ -53,7 +59,7 @@ impl<'a> fmt::Display for Coins<'a> {
         }
         // `i` is the place of a coin in the word.
         for i in 0..self.0.count {
-            write!(f, "{}", u32::from(bit(self.0.coins, i)))?;
+            f.write_str(digit(bit(self.0.coins, i)))?;
         }
         Ok(())
     }
