@@ -1,5 +1,5 @@
 // What the program prints of a circuit: the lines of the journal, and a last line that tells how it ended.
-ghost use Rattle.std.specs.Prelude.{◌≡◌, ◌++◌, IfOk, string_bytes, OnOk};
+ghost use Rattle.std.specs.Prelude.{◌≡◌, ◌++◌, Some, IfOk, string_bytes, OnOk};
 ghost use Rattle.journal_lines.specs.Entries.{entry_line};
 ghost use Rattle.runs.specs.Readings.{readings};
 ghost use Rattle.circuit_run.specs.Output.{joined, last_line, output, Answered};
@@ -10,6 +10,7 @@ use journal::Journal;
 use journal_lines::entry::Entry;
 use journal_lines::lines::LONGEST_LINE;
 use std::alloc::{AllocError, Global};
+use std::fmt;
 use text::stop::Stop;
 
 // Adds the line of an entry.
@@ -32,23 +33,36 @@ fn add_journal(out: &mut Vec<u8>, journal: &Journal) -> Result<(), AllocError>
     Ok(())
 }
 
-// The last line: `E,entries,coins,width` or `R,line,number`.
+// The last line: `E,entries,coins,width` or `R,line,number`. It prints itself, so that a program needs no memory for it.
+#[derive(Clone, Copy)]
+pub struct LastLine(pub Result<Finish, Stop>);
+
+impl fmt::Display for LastLine {
+    ghost output = { λ l. Some (last_line l.0) };
+
+    fn fmt<W: fmt::Write>(&self, f: &mut fmt::Formatter<W>) -> fmt::Result {
+        match self.0 {
+            Ok(finish) => {
+                let entries = finish.entries;
+                let coins = finish.coins;
+                let width = finish.width;
+                write!(f, "E,{entries},{coins},{width}\n")
+            }
+            Err(stop) => {
+                let line = stop.line;
+                let number = stop.fault.number();
+                write!(f, "R,{line},{number}\n")
+            }
+        }
+    }
+}
+
+// The same as a text.
 pub fn last_line(heap: Global, end: Result<Finish, Stop>) -> Result<String, AllocError>
     ensures { IfOk result (λ line. string_bytes line ≡ last_line end) }
 {
-    match end {
-        Ok(finish) => {
-            let entries = finish.entries;
-            let coins = finish.coins;
-            let width = finish.width;
-            format!(in heap; "E,{entries},{coins},{width}\n")
-        }
-        Err(stop) => {
-            let line = stop.line;
-            let number = stop.fault.number();
-            format!(in heap; "R,{line},{number}\n")
-        }
-    }
+    let line = LastLine(end);
+    format!(in heap; "{line}")
 }
 
 // What is printed of a report.

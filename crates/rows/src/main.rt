@@ -2,7 +2,7 @@
 #![tactic(auto)]
 
 use circuit::play::play;
-use circuit_run::output::last_line;
+use circuit_run::output::LastLine;
 use circuit_run::report::Finish;
 use circuit_run::run::{open, supply};
 use circuit_text::reader::Reader;
@@ -22,8 +22,7 @@ use text::write;
 use text::write::Field;
 
 fn show_end(rt: &HostRuntime, end: Result<Finish, Stop>) -> io::Result<()> {
-    let line = last_line(rt.alloc(), end)?;
-    print!(rt; "{line}")
+    print!(rt; "{}", LastLine(end))
 }
 
 // Prints a line that was written into the start of a page, which has room for every line.
